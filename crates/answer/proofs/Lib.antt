@@ -1,0 +1,4 @@
+-- `Unique` says that a promise fixes its answer; `Laws` has what proofs of readers cite; `Table` the rule of a table of texts.
+pub mod Unique
+pub mod Laws
+pub mod Table

@@ -1,0 +1,17 @@
+-- Two answers that meet one promise are equal: a promise is an equation with a definition, of the answer and of the lent memory.
+-- Assumes nothing.
+use mathlib.Core.Path.{_≡_, sym, _∙_}
+use mathlib.Core.List.{List}
+use Prim.Native.Nat.{ℕ}
+use Rattle.answer.specs.Words.{row}
+
+-- of an answer
+pub same : {A : Type 0} {d r q : A} → r ≡ d → q ≡ d → r ≡ q
+same e f = e ∙ sym f
+
+-- of an answer and what a lent buffer holds then
+pub same-both : {A B : Type 0} {d r q : A} {m l k : B} → (r ≡ d) × (l ≡ m) → (q ≡ d) × (k ≡ m) → (r ≡ q) × (l ≡ k)
+same-both e f = (same (e .0) (f .0), same (e .1) (f .1))
+
+pub words-unique : (n : ℕ) {r q : List ℕ} → r ≡ row n → q ≡ row n → r ≡ q
+words-unique n = same

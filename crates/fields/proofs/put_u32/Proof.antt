@@ -1,0 +1,65 @@
+-- `fields::put_u32` meets its contract: the two halves, put one behind the other, are the number.
+-- Assumes nothing.
+use borrow.Author.Needs.{needs}
+use native.Mathlib.Omega.{arith}
+use mathlib.Core.Bool.{true, false}
+use Rattle.fields.proofs.Laws.{put-joined}
+use Rattle.fields.proofs.put_u32.Statement.{statement}
+use Rattle.fields.proofs.put_u32.Tie as tie
+
+cast-high : tie.Need-cast-high
+cast-high c = search needs
+
+cast-low : tie.Need-cast-low
+cast-low c = search needs
+
+put-u16-requires : tie.Need-put-u16-requires
+put-u16-requires c κs = search needs
+
+add-put-u16 : tie.Need-add-put-u16
+add-put-u16 c = search needs
+
+put-u16-requires-2 : tie.Need-put-u16-requires-2
+put-u16-requires-2 c κs = search needs
+
+same-length : tie.Need-same-length
+same-length c = search needs
+
+returns : tie.Need-returns
+returns c =
+    let big = c .before .before .before .before .before .before .before .before .before .before .args .big in
+    put-joined big true (c .before .before .before .before .before .before .before .before .if1 .taken) 2 _ _ _ _ _ _ _ _ (omega arith) (omega arith) (omega arith) (omega arith) (c .before .before .before .before .before .before .put-u16 .ensures) (omega arith) (c .before .before .put-u162 .ensures)
+
+put-u16-requires-3 : tie.Need-put-u16-requires-3
+put-u16-requires-3 c κs = search needs
+
+add-put-u16-2 : tie.Need-add-put-u16-2
+add-put-u16-2 c = search needs
+
+put-u16-requires-4 : tie.Need-put-u16-requires-4
+put-u16-requires-4 c κs = search needs
+
+same-length-2 : tie.Need-same-length-2
+same-length-2 c = search needs
+
+returns-2 : tie.Need-returns-2
+returns-2 c =
+    let big = c .before .before .before .before .before .before .before .before .before .before .args .big in
+    put-joined big false (c .before .before .before .before .before .before .before .before .if1 .left) 2 _ _ _ _ _ _ _ _ (omega arith) (omega arith) (omega arith) (omega arith) (c .before .before .before .before .before .before .put-u163 .ensures) (omega arith) (c .before .before .put-u164 .ensures)
+
+pub put-u32-spec : {M : Type 1} → statement M
+put-u32-spec =
+    tie.close
+    (tie.spec
+    cast-high
+    cast-low
+    put-u16-requires
+    add-put-u16
+    put-u16-requires-2
+    same-length
+    returns
+    put-u16-requires-3
+    add-put-u16-2
+    put-u16-requires-4
+    same-length-2
+    returns-2)

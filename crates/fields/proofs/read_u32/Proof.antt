@@ -1,0 +1,75 @@
+-- `fields::read_u32` meets its contract: the two halves that were read join to the number; where one is missing, the field ends past the bytes.
+-- Assumes nothing.
+use mathlib.Core.Path.{_∙_}
+use borrow.Author.Needs.{needs}
+use native.Mathlib.Omega.{arith}
+use Rattle.fields.proofs.Laws.{cut-short, field-value, field-cut, half-found, half-missed, halves-found}
+use Rattle.fields.proofs.read_u32.Statement.{statement}
+use Rattle.fields.proofs.read_u32.Tie as tie
+
+read-u16-requires : tie.Need-read-u16-requires
+read-u16-requires c κs = search needs
+
+enum-known-first : tie.Need-enum-known-first
+enum-known-first c = search needs
+
+enum-told : tie.Need-enum-told
+enum-told c = search needs
+
+cut-requires : tie.Need-cut-requires
+cut-requires c κs = search needs
+
+returns : tie.Need-returns
+returns c =
+    let m = half-missed _ _ _ (c .before .before .before .read-u16 .ensures) (c .before .enum-told .given .1) in
+    field-cut _ _ _ 4 _ _ (omega arith) (c .cut .ensures ∙ cut-short _)
+
+add-read-u16 : tie.Need-add-read-u16
+add-read-u16 c =
+    let f = half-found _ _ _ (c .before .before .before .read-u16 .ensures) (c .before .first .given .1) in
+    omega arith
+
+read-u16-requires-2 : tie.Need-read-u16-requires-2
+read-u16-requires-2 c κs = search needs
+
+enum-known-second : tie.Need-enum-known-second
+enum-known-second c = search needs
+
+enum-told-2 : tie.Need-enum-told-2
+enum-told-2 c = search needs
+
+cut-requires-2 : tie.Need-cut-requires-2
+cut-requires-2 c κs = search needs
+
+returns-2 : tie.Need-returns-2
+returns-2 c =
+    let m = half-missed _ _ _ (c .before .before .before .read-u162 .ensures) (c .before .enum-told2 .given .1) in
+    field-cut _ _ _ 4 _ _ (omega arith) (c .cut2 .ensures ∙ cut-short _)
+
+word-of-requires : tie.Need-word-of-requires
+word-of-requires c κs = search needs
+
+returns-3 : tie.Need-returns-3
+returns-3 c =
+    let f = half-found _ _ _ (c .before .before .before .before .before .before .before .before .read-u16 .ensures) (c .before .before .before .before .before .before .first .given .1) in
+    let g = half-found _ _ _ (c .before .before .before .before .read-u162 .ensures) (c .before .before .second .given .1) in
+    let j = halves-found (c .before .before .before .before .before .before .before .before .before .before .args .big) 2 _ _ _ f g (omega arith) (c .word-of .ensures) in
+    field-value _ _ _ 4 _ _ (j .inside) (j .value)
+
+pub read-u32-spec : {M : Type 1} → statement M
+read-u32-spec =
+    tie.close
+    (tie.spec
+    read-u16-requires
+    enum-known-first
+    enum-told
+    cut-requires
+    returns
+    add-read-u16
+    read-u16-requires-2
+    enum-known-second
+    enum-told-2
+    cut-requires-2
+    returns-2
+    word-of-requires
+    returns-3)

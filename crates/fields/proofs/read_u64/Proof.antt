@@ -1,0 +1,75 @@
+-- `fields::read_u64` meets its contract: the two halves that were read join to the number; where one is missing, the field ends past the bytes.
+-- Assumes nothing.
+use mathlib.Core.Path.{_∙_}
+use borrow.Author.Needs.{needs}
+use native.Mathlib.Omega.{arith}
+use Rattle.fields.proofs.Laws.{cut-short, field-value, field-cut, word-found, word-missed, halves-found}
+use Rattle.fields.proofs.read_u64.Statement.{statement}
+use Rattle.fields.proofs.read_u64.Tie as tie
+
+read-u32-requires : tie.Need-read-u32-requires
+read-u32-requires c κs = search needs
+
+enum-known-first : tie.Need-enum-known-first
+enum-known-first c = search needs
+
+enum-told : tie.Need-enum-told
+enum-told c = search needs
+
+cut-requires : tie.Need-cut-requires
+cut-requires c κs = search needs
+
+returns : tie.Need-returns
+returns c =
+    let m = word-missed _ _ _ (c .before .before .before .read-u32 .ensures) (c .before .enum-told .given .1) in
+    field-cut _ _ _ 8 _ _ (omega arith) (c .cut .ensures ∙ cut-short _)
+
+add-read-u32 : tie.Need-add-read-u32
+add-read-u32 c =
+    let f = word-found _ _ _ (c .before .before .before .read-u32 .ensures) (c .before .first .given .1) in
+    omega arith
+
+read-u32-requires-2 : tie.Need-read-u32-requires-2
+read-u32-requires-2 c κs = search needs
+
+enum-known-second : tie.Need-enum-known-second
+enum-known-second c = search needs
+
+enum-told-2 : tie.Need-enum-told-2
+enum-told-2 c = search needs
+
+cut-requires-2 : tie.Need-cut-requires-2
+cut-requires-2 c κs = search needs
+
+returns-2 : tie.Need-returns-2
+returns-2 c =
+    let m = word-missed _ _ _ (c .before .before .before .read-u322 .ensures) (c .before .enum-told2 .given .1) in
+    field-cut _ _ _ 8 _ _ (omega arith) (c .cut2 .ensures ∙ cut-short _)
+
+long-of-requires : tie.Need-long-of-requires
+long-of-requires c κs = search needs
+
+returns-3 : tie.Need-returns-3
+returns-3 c =
+    let f = word-found _ _ _ (c .before .before .before .before .before .before .before .before .read-u32 .ensures) (c .before .before .before .before .before .before .first .given .1) in
+    let g = word-found _ _ _ (c .before .before .before .before .read-u322 .ensures) (c .before .before .second .given .1) in
+    let j = halves-found (c .before .before .before .before .before .before .before .before .before .before .args .big) 4 _ _ _ f g (omega arith) (c .long-of .ensures) in
+    field-value _ _ _ 8 _ _ (j .inside) (j .value)
+
+pub read-u64-spec : {M : Type 1} → statement M
+read-u64-spec =
+    tie.close
+    (tie.spec
+    read-u32-requires
+    enum-known-first
+    enum-told
+    cut-requires
+    returns
+    add-read-u32
+    read-u32-requires-2
+    enum-known-second
+    enum-told-2
+    cut-requires-2
+    returns-2
+    long-of-requires
+    returns-3)

@@ -1,0 +1,37 @@
+-- `fields::write_u16` meets its contract: the test is whether the field fits.
+-- Assumes nothing.
+use borrow.Author.Needs.{needs}
+use native.Mathlib.Omega.{arith}
+use mathlib.Core.Path.{sym, _∙_}
+use borrow.Author.Tests.{leb-true, leb-false}
+use Rattle.fields.proofs.Laws.{store-done, store-refused}
+use Rattle.fields.proofs.Number.{length-bytes}
+use Rattle.fields.proofs.write_u16.Statement.{statement}
+use Rattle.fields.proofs.write_u16.Tie as tie
+
+fits-requires : tie.Need-fits-requires
+fits-requires c κs = search needs
+
+put-u16-requires : tie.Need-put-u16-requires
+put-u16-requires c κs = leb-true _ _ (sym (c .before .before .fits2 .ensures) ∙ c .before .if1 .taken)
+
+same-length : tie.Need-same-length
+same-length c = search needs
+
+returns : tie.Need-returns
+returns c =
+    let h = leb-true _ _ (sym (c .before .before .before .before .before .fits2 .ensures) ∙ c .before .before .before .before .if1 .taken) in
+    store-done 2 _ _ _ (length-bytes _ 2 _) h (c .before .before .put-u16 .ensures)
+
+no-room-requires : tie.Need-no-room-requires
+no-room-requires c κs = search needs
+
+returns-2 : tie.Need-returns-2
+returns-2 c =
+    let h = leb-false _ _ (sym (c .before .before .fits2 .ensures) ∙ c .before .if1 .left) in
+    store-refused 2 _ _ _ (length-bytes _ 2 _) h (c .no-room .ensures)
+
+pub write-u16-spec : {M : Type 1} → statement M
+write-u16-spec =
+    tie.close
+    (tie.spec fits-requires put-u16-requires same-length returns no-room-requires returns-2)

@@ -1,0 +1,28 @@
+-- `fields::write_u8` meets its contract: the test is whether the field fits.
+-- Assumes nothing.
+use borrow.Author.Needs.{needs}
+use native.Mathlib.Omega.{arith}
+use mathlib.Core.Path.{sym, _∙_}
+use borrow.Author.Tests.{leb-true, leb-false}
+use Rattle.fields.proofs.Laws.{store-done, store-refused}
+use Rattle.fields.proofs.Number.{length-bytes}
+use Rattle.fields.proofs.write_u8.Statement.{statement}
+use Rattle.fields.proofs.write_u8.Tie as tie
+
+put-u8-requires : tie.Need-put-u8-requires
+put-u8-requires c κs = search needs
+
+same-length : tie.Need-same-length
+same-length c = search needs
+
+returns : tie.Need-returns
+returns c = store-done 1 _ _ _ (length-bytes _ 1 _) (omega arith) (c .before .before .put-u8 .ensures)
+
+no-room-requires : tie.Need-no-room-requires
+no-room-requires c κs = search needs
+
+returns-2 : tie.Need-returns-2
+returns-2 c = store-refused 1 _ _ _ (length-bytes _ 1 _) (omega arith) (c .no-room .ensures)
+
+pub write-u8-spec : {M : Type 1} → statement M
+write-u8-spec = tie.close (tie.spec put-u8-requires same-length returns no-room-requires returns-2)

@@ -1,0 +1,229 @@
+// Numbers of 8, 16, 32 and 64 bits at an offset of lent bytes, in either order: read, and written. Every function answers on
+// every input; an offset plus a width never wraps.
+ghost use mathlib.Core.Path.{_≡_};
+ghost use Prim.Native.Nat.{_+_, _≤_};
+ghost use mathlib.Core.Bool.{false};
+ghost use lib.ListN.{length};
+ghost use lib.Dec.{leb};
+ghost use Rattle.answer.specs.Answer.{refuse, short, room};
+ghost use Rattle.fields.specs.Number.{bytesOf, joined};
+ghost use Rattle.fields.specs.Field.{fieldOf, put, stored, writtenIn};
+use answer::Refusal;
+
+pub enum Byte {
+    Value(u8),
+    Refused(Refusal),
+}
+
+pub enum Half {
+    Value(u16),
+    Refused(Refusal),
+}
+
+pub enum Word {
+    Value(u32),
+    Refused(Refusal),
+}
+
+pub enum Long {
+    Value(u64),
+    Refused(Refusal),
+}
+
+pub enum Written {
+    Done,
+    Refused(Refusal),
+}
+
+pub fn read_u8(s: &[u8], at: usize) -> Byte
+    ensures { λ r. ⌜ r ≡ fieldOf Byte.Value Byte.Refused false 1 (now (s .entry)) at ⌝ }
+{
+    if at < s.len() {
+        return Byte::Value(s[at]);
+    }
+    Byte::Refused(cut())
+}
+
+pub fn read_u16(s: &[u8], at: usize, big: bool) -> Half
+    ensures { λ r. ⌜ r ≡ fieldOf Half.Value Half.Refused big 2 (now (s .entry)) at ⌝ }
+{
+    let Byte::Value(first) = read_u8(s, at) else {
+        return Half::Refused(cut());
+    };
+    let Byte::Value(second) = read_u8(s, at + 1) else {
+        return Half::Refused(cut());
+    };
+    Half::Value(half_of(first, second, big))
+}
+
+pub fn read_u32(s: &[u8], at: usize, big: bool) -> Word
+    ensures { λ r. ⌜ r ≡ fieldOf Word.Value Word.Refused big 4 (now (s .entry)) at ⌝ }
+{
+    let Half::Value(first) = read_u16(s, at, big) else {
+        return Word::Refused(cut());
+    };
+    let Half::Value(second) = read_u16(s, at + 2, big) else {
+        return Word::Refused(cut());
+    };
+    Word::Value(word_of(first, second, big))
+}
+
+pub fn read_u64(s: &[u8], at: usize, big: bool) -> Long
+    ensures { λ r. ⌜ r ≡ fieldOf Long.Value Long.Refused big 8 (now (s .entry)) at ⌝ }
+{
+    let Word::Value(first) = read_u32(s, at, big) else {
+        return Long::Refused(cut());
+    };
+    let Word::Value(second) = read_u32(s, at + 4, big) else {
+        return Long::Refused(cut());
+    };
+    Long::Value(long_of(first, second, big))
+}
+
+pub fn write_u8(out: &mut [u8], at: usize, n: u8) -> Written
+    ensures { λ r. ⌜ (r ≡ writtenIn 1 (now (out .entry)) at) × (now (out .exit) ≡ stored (now (out .entry)) at (bytesOf false 1 n)) ⌝ }
+{
+    if at < out.len() {
+        put_u8(out, at, n);
+        return Written::Done;
+    }
+    Written::Refused(no_room())
+}
+
+pub fn write_u16(out: &mut [u8], at: usize, n: u16, big: bool) -> Written
+    ensures { λ r. ⌜ (r ≡ writtenIn 2 (now (out .entry)) at) × (now (out .exit) ≡ stored (now (out .entry)) at (bytesOf big 2 n)) ⌝ }
+{
+    if fits(out.len(), at, 2) {
+        put_u16(out, at, n, big);
+        return Written::Done;
+    }
+    Written::Refused(no_room())
+}
+
+pub fn write_u32(out: &mut [u8], at: usize, n: u32, big: bool) -> Written
+    ensures { λ r. ⌜ (r ≡ writtenIn 4 (now (out .entry)) at) × (now (out .exit) ≡ stored (now (out .entry)) at (bytesOf big 4 n)) ⌝ }
+{
+    if fits(out.len(), at, 4) {
+        put_u32(out, at, n, big);
+        return Written::Done;
+    }
+    Written::Refused(no_room())
+}
+
+pub fn write_u64(out: &mut [u8], at: usize, n: u64, big: bool) -> Written
+    ensures { λ r. ⌜ (r ≡ writtenIn 8 (now (out .entry)) at) × (now (out .exit) ≡ stored (now (out .entry)) at (bytesOf big 8 n)) ⌝ }
+{
+    if fits(out.len(), at, 8) {
+        put_u64(out, at, n, big);
+        return Written::Done;
+    }
+    Written::Refused(no_room())
+}
+
+// Whether `width` bytes from `at` lie within `len` bytes.
+pub fn fits(len: usize, at: usize, width: usize) -> bool
+    ensures { λ r. ⌜ r ≡ leb (at + width) len ⌝ }
+{
+    if len < width {
+        return false;
+    }
+    if len - width < at {
+        return false;
+    }
+    true
+}
+
+fn cut() -> Refusal
+    ensures { λ r. ⌜ r ≡ refuse short ⌝ }
+{
+    Refusal {
+        number: answer::SHORT,
+    }
+}
+
+fn no_room() -> Refusal
+    ensures { λ r. ⌜ r ≡ refuse room ⌝ }
+{
+    Refusal {
+        number: answer::ROOM,
+    }
+}
+
+fn half_of(first: u8, second: u8, big: bool) -> u16
+    ensures { λ r. ⌜ r ≡ joined big 1 first second ⌝ }
+{
+    if big {
+        return 256 * (first as u16) + (second as u16);
+    }
+    256 * (second as u16) + (first as u16)
+}
+
+fn word_of(first: u16, second: u16, big: bool) -> u32
+    ensures { λ r. ⌜ r ≡ joined big 2 first second ⌝ }
+{
+    if big {
+        return 65536 * (first as u32) + (second as u32);
+    }
+    65536 * (second as u32) + (first as u32)
+}
+
+fn long_of(first: u32, second: u32, big: bool) -> u64
+    ensures { λ r. ⌜ r ≡ joined big 4 first second ⌝ }
+{
+    if big {
+        return 4294967296 * (first as u64) + (second as u64);
+    }
+    4294967296 * (second as u64) + (first as u64)
+}
+
+fn put_u8(out: &mut [u8], at: usize, n: u8)
+    requires { ⌜ at + 1 ≤ length (now out) ⌝ }
+    ensures { λ r. ⌜ now (out .exit) ≡ put (now (out .entry)) at (bytesOf false 1 n) ⌝ }
+{
+    out[at] = n;
+}
+
+fn put_u16(out: &mut [u8], at: usize, n: u16, big: bool)
+    requires { ⌜ at + 2 ≤ length (now out) ⌝ }
+    ensures { λ r. ⌜ now (out .exit) ≡ put (now (out .entry)) at (bytesOf big 2 n) ⌝ }
+{
+    let high = (n / 256) as u8;
+    let low = (n % 256) as u8;
+    if big {
+        put_u8(out, at, high);
+        put_u8(out, at + 1, low);
+        return;
+    }
+    put_u8(out, at, low);
+    put_u8(out, at + 1, high);
+}
+
+fn put_u32(out: &mut [u8], at: usize, n: u32, big: bool)
+    requires { ⌜ at + 4 ≤ length (now out) ⌝ }
+    ensures { λ r. ⌜ now (out .exit) ≡ put (now (out .entry)) at (bytesOf big 4 n) ⌝ }
+{
+    let high = (n / 65536) as u16;
+    let low = (n % 65536) as u16;
+    if big {
+        put_u16(out, at, high, big);
+        put_u16(out, at + 2, low, big);
+        return;
+    }
+    put_u16(out, at, low, big);
+    put_u16(out, at + 2, high, big);
+}
+
+fn put_u64(out: &mut [u8], at: usize, n: u64, big: bool)
+    requires { ⌜ at + 8 ≤ length (now out) ⌝ }
+    ensures { λ r. ⌜ now (out .exit) ≡ put (now (out .entry)) at (bytesOf big 8 n) ⌝ }
+{
+    let high = (n / 4294967296) as u32;
+    let low = (n % 4294967296) as u32;
+    if big {
+        put_u32(out, at, high, big);
+        put_u32(out, at + 4, low, big);
+        return;
+    }
+    put_u32(out, at, low, big);
+    put_u32(out, at + 4, high, big);
+}

@@ -1,0 +1,3 @@
+-- `Runtime` is the record, `Answers` what each answer stands for.
+pub mod Runtime
+pub mod Answers
