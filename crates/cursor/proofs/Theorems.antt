@@ -5,7 +5,7 @@ use mathlib.Core.List.{List}
 use mathlib.Core.Bool.{Bool, false}
 use Prim.Native.Nat.{ℕ}
 use Rattle.answer.proofs.Unique.{same}
-use Rattle.cursor.specs.Next.{nextOf, takenByte, takenHalf, takenWord, takenLong}
+use Rattle.cursor.specs.Next.{StandsAt, nextOf, takenByte, takenHalf, takenWord, takenLong}
 use Rattle.cursor.specs.declared.Cursor.{Cursor}
 use Rattle.cursor.specs.declared.NextByte.{NextByte}
 use Rattle.cursor.specs.declared.NextByte.the-variants as byte
@@ -16,7 +16,7 @@ use Rattle.cursor.specs.declared.NextWord.the-variants as word
 use Rattle.cursor.specs.declared.NextLong.{NextLong}
 use Rattle.cursor.specs.declared.NextLong.the-variants as long
 
-pub new-unique : (at : ℕ) {r q : Cursor} → r .at ≡ at → q .at ≡ at → r ≡ q
+pub new-unique : (at : ℕ) {r q : Cursor} → StandsAt r at → StandsAt q at → r ≡ q
 new-unique at e f = ap (λ (n : ℕ). record { at = n }) (same e f)
 
 pub u8-unique : (s : List ℕ) (at : ℕ) {r q : NextByte} → r ≡ nextOf takenByte byte.Refused false 1 s at → q ≡ nextOf takenByte byte.Refused false 1 s at → r ≡ q

@@ -3,6 +3,7 @@
 use Prim.Native.Nat.{ℕ, _+_}
 use mathlib.Core.List.{List}
 use mathlib.Core.Bool.{Bool}
+use mathlib.Core.Path.{_≡_}
 use Rattle.answer.specs.declared.Refusal.{Refusal}
 use Rattle.fields.specs.Field.{fieldOf}
 use Rattle.cursor.specs.declared.Cursor.{Cursor}
@@ -14,6 +15,10 @@ use Rattle.cursor.specs.declared.NextWord.{NextWord}
 use Rattle.cursor.specs.declared.NextWord.the-variants as word
 use Rattle.cursor.specs.declared.NextLong.{NextLong}
 use Rattle.cursor.specs.declared.NextLong.the-variants as long
+
+-- the cursor stands at that place
+abbrev pub StandsAt : Cursor → ℕ → Type 0
+StandsAt c at = c .at ≡ at
 
 -- `w` bytes at `at`: the field, and `at + w`
 unfoldable pub nextOf : {A : Type 0} → (ℕ → Cursor → A) → (Refusal → A) → Bool → ℕ → List ℕ → ℕ → A

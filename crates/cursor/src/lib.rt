@@ -1,7 +1,7 @@
 // A place in lent bytes, by value: each read hands back the number and the place past it, or the refusal of the field.
 ghost use mathlib.Core.Path.{_≡_};
 ghost use mathlib.Core.Bool.{false};
-ghost use Rattle.cursor.specs.Next.{nextOf, takenByte, takenHalf, takenWord, takenLong};
+ghost use Rattle.cursor.specs.Next.{StandsAt, nextOf, takenByte, takenHalf, takenWord, takenLong};
 use answer::Refusal;
 use fields::Byte;
 use fields::Half;
@@ -54,7 +54,7 @@ pub enum NextLong {
 
 impl Cursor {
     pub fn new(at: usize) -> Self
-        ensures { λ r. ⌜ r .at ≡ at ⌝ }
+        ensures { λ r. ⌜ StandsAt r at ⌝ }
     {
         Cursor { at }
     }

@@ -7,11 +7,10 @@ use Prim.Native.Nat.{ℕ, _+_, _^_, _≤_, _<_}
 use native.Mathlib.Omega.{arith}
 use lib.ListN.{length, take, drop, take-append-drop, length-take}
 use lib.Seq.{drop-drop, drop-at}
-use lib.Dec.{leb}
 use Rattle.answer.proofs.Unique.{same, same-both}
 use Rattle.answer.specs.declared.Refusal.{Refusal}
 use Rattle.fields.specs.Number.{numberAt, bytesOf, Bytes}
-use Rattle.fields.specs.Field.{fieldOf, put, stored, writtenIn}
+use Rattle.fields.specs.Field.{inside, fieldOf, put, stored, writtenIn}
 use Rattle.fields.specs.declared.Byte.{Byte}
 use Rattle.fields.specs.declared.Byte.the-variants as byte
 use Rattle.fields.specs.declared.Half.{Half}
@@ -73,5 +72,5 @@ read-u64-unique s at big = same
 pub write-unique : (w : ℕ) (big : Bool) (n : ℕ) (o : List ℕ) (at : ℕ) {r q : Written} {l k : List ℕ} → (r ≡ writtenIn w o at) × (l ≡ stored o at (bytesOf big w n)) → (q ≡ writtenIn w o at) × (k ≡ stored o at (bytesOf big w n)) → (r ≡ q) × (l ≡ k)
 write-unique w big n o at = same-both
 
-pub fits-unique : (len at width : ℕ) {r q : Bool} → r ≡ leb (at + width) len → q ≡ leb (at + width) len → r ≡ q
+pub fits-unique : (len at width : ℕ) {r q : Bool} → r ≡ inside len at width → q ≡ inside len at width → r ≡ q
 fits-unique len at width = same

@@ -13,6 +13,10 @@ use Rattle.fields.specs.Number.{numberAt}
 use Rattle.fields.specs.declared.Written.{Written}
 use Rattle.fields.specs.declared.Written.the-variants.{Done, Refused}
 
+-- `w` bytes from `at` lie within `len` bytes; the sum is a number without bound, so it never wraps
+abbrev pub inside : ℕ → ℕ → ℕ → Bool
+inside len at w = leb (at + w) len
+
 -- reading: `value` of the number, or `refused` of the refusal at the field's end
 unfoldable pub fieldOf : {A : Type 0} → (ℕ → A) → (Refusal → A) → Bool → ℕ → List ℕ → ℕ → A
 fieldOf value refused big w s at =

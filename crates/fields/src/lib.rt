@@ -4,10 +4,9 @@ ghost use mathlib.Core.Path.{_≡_};
 ghost use Prim.Native.Nat.{_+_, _≤_};
 ghost use mathlib.Core.Bool.{false};
 ghost use lib.ListN.{length};
-ghost use lib.Dec.{leb};
 ghost use Rattle.answer.specs.Answer.{refuse, short, room};
 ghost use Rattle.fields.specs.Number.{bytesOf, joined};
-ghost use Rattle.fields.specs.Field.{fieldOf, put, stored, writtenIn};
+ghost use Rattle.fields.specs.Field.{inside, fieldOf, put, stored, writtenIn};
 use answer::Refusal;
 
 pub enum Byte {
@@ -122,7 +121,7 @@ pub fn write_u64(out: &mut [u8], at: usize, n: u64, big: bool) -> Written
 
 // Whether `width` bytes from `at` lie within `len` bytes.
 pub fn fits(len: usize, at: usize, width: usize) -> bool
-    ensures { λ r. ⌜ r ≡ leb (at + width) len ⌝ }
+    ensures { λ r. ⌜ r ≡ inside len at width ⌝ }
 {
     if len < width {
         return false;
