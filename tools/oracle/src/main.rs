@@ -3,7 +3,9 @@
 //!
 //! The process that reads the lines hands each to a worker, a second process of the same program, and starts a new one where the
 //! worker hangs.
+mod fat;
 mod ground;
+mod pe;
 mod request;
 
 use request::Request;
@@ -16,6 +18,8 @@ const SECONDS: u64 = 2;
 
 fn answer(request: &Request) -> Option<String> {
     ground::answer(request)
+        .or_else(|| fat::answer(request))
+        .or_else(|| pe::answer(request))
 }
 
 /// What a door of goblin's gave: its values, or a refusal.
