@@ -1,0 +1,80 @@
+-- Document 01, "Mapping": which section holds an address, and the file offset that it maps it to. Where the document and utils.rs
+-- differ, "utils.rs .. decides": a section whose raw size is 0 maps nothing, and the offset counts from the raw pointer as it stands.
+-- Assumes nothing.
+use Prim.Native.Nat.{ℕ, zero, suc, _+_, _-_, _*_, _/_, _^_, min}
+use mathlib.Core.List.{List}
+use mathlib.Core.Bool.{Bool, true, false}
+use lib.Dec.{leb, ltb, eqb}
+use Rattle.answer.specs.Answer.{refuse, limit, noSection}
+use Rattle.answer.specs.Test.{pick, must, inLimit}
+use Rattle.answer.specs.declared.Refusal.{Refusal}
+use Rattle.section.specs.Section.{rowAt, sectionLimit}
+use Rattle.section.specs.declared.SectionHeader.{SectionHeader}
+use Rattle.section.specs.declared.Found.{Found}
+use Rattle.section.specs.declared.Found.the-variants as found
+use Rattle.mapping.specs.declared.Mapped.{Mapped}
+use Rattle.mapping.specs.declared.Mapped.the-variants.{At, Refused}
+
+-- rounded down to a multiple of `m`
+abbrev pub down : ℕ → ℕ → ℕ
+down m n = n / m * m
+
+-- rounded up to a multiple of `m`
+unfoldable pub up : ℕ → ℕ → ℕ
+up m n = (n + m - 1) / m * m
+
+-- whether it is 2 ^ k for some k below `top`
+unfoldable pub powerBelow : ℕ → ℕ → Bool
+powerBelow zero n = false
+powerBelow (suc k) n = pick (eqb n (2 ^ k)) true (powerBelow k n)
+
+-- whether a number of 32 bits is a power of two
+abbrev pub powerOfTwo : ℕ → Bool
+powerOfTwo n = powerBelow 32 n
+
+-- "The raw pointer is rounded down to a multiple of 512. Readable size: raw pointer plus raw size, rounded up to the file alignment,
+-- less the rounded pointer; at most the raw size rounded up to 4,096 .."
+abbrev pub stored : ℕ → SectionHeader → ℕ
+stored alignment h =
+    min
+    (up alignment (h .«pointer_to_raw_data» + h .«size_of_raw_data») - down 512 (h .«pointer_to_raw_data»))
+    (up 4096 (h .«size_of_raw_data»))
+
+-- ".. and, if the virtual size is not 0, at most that rounded up to 4,096."
+unfoldable pub readableSize : ℕ → SectionHeader → ℕ
+readableSize alignment h =
+    pick (eqb (h .«size_of_raw_data») 0)
+    0
+    (pick (eqb (h .«virtual_size») 0) (stored alignment h) (min (stored alignment h) (up 4096 (h .«virtual_size»))))
+
+-- whether the section holds the address
+unfoldable pub holds : ℕ → SectionHeader → ℕ → Bool
+holds alignment h address =
+    pick (leb (h .«virtual_address») address)
+    (ltb address (h .«virtual_address» + readableSize alignment h))
+    false
+
+-- the file offset of an address that the section holds
+abbrev pub offsetIn : SectionHeader → ℕ → ℕ
+offsetIn h address = h .«pointer_to_raw_data» + (address - h .«virtual_address»)
+
+abbrev pub onRow : {A : Type 0} → Found → (Refusal → A) → (SectionHeader → A) → A
+onRow (found.At h) refused on = on h
+onRow (found.Refused k) refused on = refused k
+
+-- "The first section in table order that holds the address wins.": the offset that the first of `n` rows from `at` that holds the
+-- address gives it; a row that is looked at and not whole is 1; none is 5
+unfoldable pub firstOf : ℕ → List ℕ → ℕ → ℕ → ℕ → Mapped
+firstOf zero s at alignment address = Refused (refuse noSection)
+firstOf (suc n) s at alignment address =
+    onRow (rowAt s at) Refused
+    (λ h. pick (holds alignment h address) (At (offsetIn h address)) (firstOf n s (at + 40) alignment address))
+
+-- the file offset of an address, by the table that starts at `table` and has `count` rows
+unfoldable pub offsetOf : List ℕ → ℕ → ℕ → ℕ → ℕ → Mapped
+offsetOf s table count alignment address =
+    inLimit Refused s
+    -- "96 sections pass, 97 is 3."
+    (must Refused (leb count sectionLimit) limit
+    -- "A file alignment of zero or not a power of two maps nothing (5)."
+    (must Refused (powerOfTwo alignment) noSection (firstOf count s table alignment address)))
