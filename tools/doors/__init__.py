@@ -1,4 +1,4 @@
 """The families of doors that tools/differential compares: each a module with NAME, DOORS, RULES and requests(rng, count)."""
-from . import fat, ground
+from . import ground, pe
 
-FAMILIES = [ground, fat]
+FAMILIES = [ground, pe]

@@ -24,7 +24,11 @@ struct Turn {
 // The doors that read, module by module.
 fn read_door(line: &[u8], r: Request, s: &[u8], out: &mut [u8; 65536], at: usize) -> reply::Reply {
     let word = request::door(line, r);
-    ask_ground::answer_read(word, r, s, out, at)
+    let ground = ask_ground::answer_read(word, r, s, out, at);
+    if ground.known {
+        return ground;
+    }
+    ask_pe::answer_read(word, r, s, out, at)
 }
 
 // The doors that write into bytes of the request.
