@@ -1,16 +1,16 @@
 //! Fat Mach-O: `MultiArch` and the members that it lists.
 use crate::request::{hex, Request};
 use crate::told;
-use goblin::mach::fat::FatArch;
+use goblin::mach::fat::{FatArch, SIZEOF_FAT_ARCH, SIZEOF_FAT_HEADER};
 use goblin::mach::MultiArch;
 
-/// The member with that index, as the iterator gives it.
+/// The member with that index, read where the iterator would read it.
 fn member(bytes: &[u8], index: usize) -> Result<FatArch, ()> {
     let multi = MultiArch::new(bytes).map_err(|_| ())?;
     if index >= multi.narches {
         return Err(());
     }
-    multi.iter_arches().nth(index).ok_or(())?.map_err(|_| ())
+    FatArch::parse(bytes, index * SIZEOF_FAT_ARCH + SIZEOF_FAT_HEADER).map_err(|_| ())
 }
 
 pub fn answer(request: &Request) -> Option<String> {

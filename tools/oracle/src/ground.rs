@@ -13,7 +13,7 @@ fn order(request: &Request) -> Endian {
 }
 
 /// The bytes after a write, or before it where it is refused.
-fn wrote<E>(bytes: &[u8], write: impl FnOnce(&mut [u8]) -> Result<usize, E>) -> String {
+pub fn wrote<E>(bytes: &[u8], write: impl FnOnce(&mut [u8]) -> Result<usize, E>) -> String {
     let mut out = bytes.to_vec();
     match write(&mut out) {
         Ok(_) => format!("ok {}", hex(&out)),

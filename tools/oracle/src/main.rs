@@ -3,10 +3,12 @@
 //!
 //! The process that reads the lines hands each to a worker, a second process of the same program, and starts a new one where the
 //! worker hangs.
+mod exception;
 mod fat;
 mod ground;
 mod pe;
 mod request;
+mod symver;
 
 use request::Request;
 use std::io::{BufRead, BufReader, Write};
@@ -20,6 +22,8 @@ fn answer(request: &Request) -> Option<String> {
     ground::answer(request)
         .or_else(|| fat::answer(request))
         .or_else(|| pe::answer(request))
+        .or_else(|| exception::answer(request))
+        .or_else(|| symver::answer(request))
 }
 
 /// What a door of goblin's gave: its values, or a refusal.

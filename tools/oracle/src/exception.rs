@@ -1,0 +1,146 @@
+//! x64 exception data: lookup, unwind info, operations and scope tables.
+use crate::request::Request;
+use crate::told;
+use goblin::pe::data_directories::DataDirectory;
+use goblin::pe::exception::{
+    ExceptionData, RuntimeFunction, ScopeTableEntry, StackFrameOffset, UnwindCode, UnwindHandler, UnwindInfo, UnwindOperation,
+};
+use goblin::pe::options::ParseOptions;
+use scroll::{Pwrite, LE};
+
+fn function_values(f: &RuntimeFunction) -> Vec<String> {
+    vec![f.begin_address.to_string(), f.end_address.to_string(), f.unwind_info_address.to_string()]
+}
+
+/// The table that starts at `table`, as exception data whose addresses are offsets.
+fn data<'a>(bytes: &'a [u8], table: usize, count: usize) -> Option<ExceptionData<'a>> {
+    let mut options = ParseOptions::default();
+    options.resolve_rva = false;
+    let directory = DataDirectory { virtual_address: 0, size: u32::try_from(count.checked_mul(12)?).ok()? };
+    ExceptionData::parse_with_opts(bytes.get(table..)?, directory, &[], 1, &options).ok()
+}
+
+fn offset_values(offset: &StackFrameOffset) -> Vec<String> {
+    match offset {
+        StackFrameOffset::RSP(n) => vec!["0".to_string(), n.to_string()],
+        StackFrameOffset::FP(n) => vec!["1".to_string(), n.to_string()],
+    }
+}
+
+/// The code offset, a number for the kind, and its data.
+fn code_values(code: &UnwindCode) -> Vec<String> {
+    let mut words = vec![code.code_offset.to_string()];
+    let mut add = |numbers: &[u32]| words.extend(numbers.iter().map(u32::to_string));
+    match code.operation {
+        UnwindOperation::PushNonVolatile(r) => add(&[0, r.0 as u32]),
+        UnwindOperation::Alloc(n) => add(&[1, n]),
+        UnwindOperation::SetFPRegister => add(&[2]),
+        UnwindOperation::SaveNonVolatile(r, at) => {
+            add(&[3, r.0 as u32]);
+            words.extend(offset_values(&at));
+        }
+        UnwindOperation::SaveXMM(r, at) => {
+            add(&[4, r.0 as u32]);
+            words.extend(offset_values(&at));
+        }
+        UnwindOperation::Epilog { offset_low_or_size, offset_high_or_flags } => add(&[5, offset_low_or_size as u32, offset_high_or_flags as u32]),
+        UnwindOperation::SaveXMM128(r, at) => {
+            add(&[6, r.0 as u32]);
+            words.extend(offset_values(&at));
+        }
+        UnwindOperation::PushMachineFrame(error) => add(&[7, error as u32]),
+        UnwindOperation::Noop => add(&[8]),
+        _ => add(&[9]),
+    }
+    words
+}
+
+pub fn info_values(bytes: &[u8], info: &UnwindInfo) -> Vec<String> {
+    let mut words = vec![
+        info.version.to_string(),
+        info.size_of_prolog.to_string(),
+        info.frame_register.0.to_string(),
+        info.frame_register_offset.to_string(),
+    ];
+    let mut handler = |kind: u32, address: u32, data: &[u8]| {
+        words.extend([kind.to_string(), address.to_string(), (bytes.len() - data.len()).to_string(), data.len().to_string()]);
+    };
+    match (&info.chained_info, &info.handler) {
+        (Some(f), _) => {
+            words.push("1".to_string());
+            words.extend(function_values(f));
+        }
+        (None, Some(UnwindHandler::ExceptionHandler(address, data))) => handler(2, *address, data),
+        (None, Some(UnwindHandler::TerminationHandler(address, data))) => handler(3, *address, data),
+        (None, None) => words.push("0".to_string()),
+    }
+    words
+}
+
+/// All codes of an info, up to the first that is refused.
+fn codes(bytes: &[u8], at: usize) -> Result<Vec<UnwindCode>, ()> {
+    let info = UnwindInfo::parse(bytes, at).map_err(|_| ())?;
+    let mut all = Vec::new();
+    for code in info.unwind_codes() {
+        all.push(code.map_err(|_| ())?);
+    }
+    Ok(all)
+}
+
+/// The scope table in a handler's data, by an info whose exception handler has it.
+fn scopes(data: &[u8]) -> Result<Vec<ScopeTableEntry>, ()> {
+    let mut bytes = vec![9, 0, 0, 0, 0, 0, 0, 0];
+    bytes.extend(data);
+    let info = UnwindInfo::parse(&bytes, 0).map_err(|_| ())?;
+    Ok(info.c_scope_table_entries().ok_or(())?.collect())
+}
+
+fn scope_values(e: &ScopeTableEntry) -> Vec<String> {
+    [e.begin, e.end, e.handler, e.target].iter().map(u32::to_string).collect()
+}
+
+pub fn answer(request: &Request) -> Option<String> {
+    Some(match request.door.as_str() {
+        "lookup" => {
+            let bytes = request.bytes_after(3)?;
+            let data = data(bytes, request.place(0), request.place(1))?;
+            let address = u32::try_from(request.number(2)).ok()?;
+            told(data.find_function(address).map_err(|_| ()).and_then(|found| found.ok_or(())), |f| function_values(&f))
+        }
+        "record" => {
+            let bytes = request.bytes_after(3)?;
+            let data = data(bytes, request.place(0), request.place(1))?;
+            if request.place(2) >= data.len() {
+                return Some("no".to_string());
+            }
+            told(data.get_function(request.place(2)), |f| function_values(&f))
+        }
+        "unwind" => {
+            let bytes = request.bytes_after(1)?;
+            told(UnwindInfo::parse(bytes, request.place(0)), |info| info_values(bytes, &info))
+        }
+        "codes" => {
+            let bytes = request.bytes_after(1)?;
+            told(codes(bytes, request.place(0)), |all| vec![all.len().to_string()])
+        }
+        "code" => {
+            let bytes = request.bytes_after(2)?;
+            told(codes(bytes, request.place(0)).and_then(|all| all.get(request.place(1)).copied().ok_or(())), |c| code_values(&c))
+        }
+        "scopes" => {
+            let data = request.bytes_after(0)?;
+            told(scopes(data), |all| vec![all.len().to_string()])
+        }
+        "scope" => {
+            let data = request.bytes_after(1)?;
+            told(scopes(data).and_then(|all| all.get(request.place(0)).copied().ok_or(())), |e| scope_values(&e))
+        }
+        "scope_put" => {
+            let bytes = request.bytes_after(5)?;
+            let n = |i| request.number(i) as u32;
+            let entry = ScopeTableEntry { begin: n(1), end: n(2), handler: n(3), target: n(4) };
+            crate::ground::wrote(bytes, |out| out.pwrite_with(entry, request.place(0), LE))
+        }
+        _ => return None,
+    })
+}
