@@ -1,0 +1,2 @@
+-- `Laws` has what the proofs of the doors cite.
+pub mod Laws
