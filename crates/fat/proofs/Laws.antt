@@ -16,21 +16,17 @@ use Rattle.answer.specs.declared.Refusal.{Refusal}
 use Rattle.answer.proofs.Laws.{must-on, must-off}
 use Rattle.fields.specs.Number.{numberAt}
 use Rattle.fields.proofs.Laws.{Missed, le-or-lt}
-use Rattle.cursor.proofs.Laws.{Took}
 use Rattle.layout.specs.Layout.{Field, widths, size, numbersAt}
 use Rattle.layout.proofs.Laws.{missed-at, full-is}
-use Rattle.layout.proofs.Theorems.{Reads, reads}
-use Rattle.layout.proofs.Theorems as layout
-use Rattle.fat.specs.Fat.{fatHeader, fatArch, fatMagic, memberLimit, upTo, behind, bytesIn, the, reading, headerIn, memberOf, memberAt, Held, members, refused, more, found-then, count-then, membersAt, heldIn, countOf, openedIn, nth, nthOf, foundIn, bytesOf, Inside}
-use Rattle.fat.specs.declared.Member.{Member}
+use Rattle.fat_member.specs.Fields.{bytesIn}
+use Rattle.fat_member.specs.Member.{fatArch, memberAt, Inside}
+use Rattle.fat_member.specs.declared.Member.{Member}
+use Rattle.fat_member.specs.declared.Found.{Found}
+use Rattle.fat_member.specs.declared.Found.the-variants as found
+use Rattle.fat_member.proofs.Laws.{member-inside}
+use Rattle.fat.specs.Fat.{fatMagic, memberLimit, headerIn, Held, members, refused, more, onFound, onCount, membersAt, heldIn, countOf, openedIn, nth, nthOf, foundIn, bytesOf}
 use Rattle.fat.specs.declared.Opened.{Opened}
 use Rattle.fat.specs.declared.Opened.the-variants as opened
-use Rattle.fat.specs.declared.Found.{Found}
-use Rattle.fat.specs.declared.Found.the-variants as found
-
--- a number that was taken, by the place that the cursor stood at
-pub number-there : {big : Bool} {w : ℕ} {s : List ℕ} {i n next at : ℕ} → Took big w s i n next → i ≡ at → n ≡ numberAt big w s at
-number-there {big} {w} {s} t e = t .value ∙ ap (numberAt big w s) e
 
 -- The header, check by check.
 module _ (s : List ℕ) where
@@ -79,62 +75,6 @@ module _ (s : List ℕ) where
           (full-is true s _ _ (4 ∷ []) 4 h
           (must-on opened.Refused _ limit _ (le-leb (numberAt true 4 s 4) memberLimit (omega arith)) (ap opened.Count e)))))
 
--- A member, check by check, whatever the form. `front` are the numbers of its fields up to its size, `back` those behind.
-module _ (arch : List Field) (s : List ℕ) (at : ℕ) where
-  abbrev pub front : List ℕ
-  front = numbersAt true (widths (upTo "size" arch)) s at
-
-  abbrev pub back : List ℕ
-  back = numbersAt true (widths (behind "size" arch)) s (at + bytesIn (upTo "size" arch))
-
-  pub member-no-front : (k : ℕ) → k < length (widths (upTo "size" arch)) → {i : ℕ} {q : Refusal} → Missed (getD (widths (upTo "size" arch)) k 0) s i q → i ≡ at + size (take k (widths (upTo "size" arch))) → (0 < k → i ≤ length s) → found.Refused q ≡ memberAt arch s at
-  unfolding memberAt
-  member-no-front k h {i} m e r = missed-at true (widths (upTo "size" arch)) k h _ found.Refused s at i m e r
-
-  module _ (room : at + bytesIn (upTo "size" arch) ≤ length s) where
-    pub member-past : {q : Refusal} → length s < the arch "offset" front + the arch "size" front → q ≡ refuse pastFile → found.Refused q ≡ memberAt arch s at
-    unfolding memberAt
-    member-past h e =
-        full-is true s _ _ (widths (upTo "size" arch)) at room
-        (must-off found.Refused _ pastFile _ (lt-leb (the arch "offset" front + the arch "size" front) (length s) h) e)
-
-    module _ (within : the arch "offset" front + the arch "size" front ≤ length s) where
-      pub member-no-back : (k : ℕ) → k < length (widths (behind "size" arch)) → {i : ℕ} {q : Refusal} → Missed (getD (widths (behind "size" arch)) k 0) s i q → i ≡ at + bytesIn (upTo "size" arch) + size (take k (widths (behind "size" arch))) → (0 < k → i ≤ length s) → found.Refused q ≡ memberAt arch s at
-      unfolding memberAt
-      member-no-back k h {i} m e r =
-          full-is true s _ _ (widths (upTo "size" arch)) at room
-          (must-on found.Refused _ pastFile _ (le-leb (the arch "offset" front + the arch "size" front) (length s) within)
-          (missed-at true (widths (behind "size" arch)) k h _ found.Refused s (at + bytesIn (upTo "size" arch)) i m e r))
-
-      pub member-whole : {m : Member} → at + bytesIn (upTo "size" arch) + bytesIn (behind "size" arch) ≤ length s → m ≡ memberOf arch (front ++ back) → found.At m ≡ memberAt arch s at
-      unfolding memberAt
-      member-whole h e =
-          full-is true s _ _ (widths (upTo "size" arch)) at room
-          (must-on found.Refused _ pastFile _ (le-leb (the arch "offset" front + the arch "size" front) (length s) within)
-          (full-is true s _ _ (widths (behind "size" arch)) (at + bytesIn (upTo "size" arch)) h (ap found.At e)))
-
--- What is told of every answer of a check or of a reading is told of its accepting answer alone.
-inside-must : (s : List ℕ) (a b number : ℕ) (on : Found) → (a ≤ b → Inside s on) → Inside s (must found.Refused (leb a b) number on)
-inside-must s a b number on h =
-    ⊎-elim
-    (λ l. rw (← must-on found.Refused (leb a b) number on (le-leb a b l) refl) (h l))
-    (λ l. rw (← must-off found.Refused (leb a b) number on (lt-leb a b l) refl) tt)
-    (le-or-lt a b)
-
-inside-reads : (s : List ℕ) {full x : Found} {ws : List ℕ} {at : ℕ} → Reads full (λ end. found.Refused (cut end)) ws s at x → Inside s full → Inside s x
-inside-reads s (layout.whole r e) h = rw e h
-inside-reads s (layout.cut n a b e) h = rw e tt
-
--- a member that is accepted ends within the file
-pub member-inside : (s : List ℕ) (at : ℕ) → Inside s (memberAt fatArch s at)
-unfolding memberAt numbersAt
-member-inside s at =
-    let ns : List ℕ = front fatArch s at in
-    let on : List ℕ → Found = λ ms. found.At (memberOf fatArch (ns ++ ms)) in
-    inside-reads s (reads _ _ true (widths (upTo "size" fatArch)) s at)
-    (inside-must s (the fatArch "offset" ns + the fatArch "size" ns) (length s) pastFile (reading found.Refused (behind "size" fatArch) s (at + 16) on)
-    (λ h. inside-reads s (reads on _ true (widths (behind "size" fatArch)) s (at + 16)) h))
-
 -- The members, one after the other. How many are asked for is what an accepting answer counts.
 abbrev pub counted : ℕ → Held → Opened
 counted n (members ms) = opened.Count n
@@ -148,7 +88,7 @@ count-more : (n : ℕ) (m : Member) (h : Held) → countOf h ≡ counted n h →
 count-more n m (members ms) e = let l : length ms ≡ n = cc in rw l
 count-more n m (refused k) e = refl
 
-count-found : (n : ℕ) (f : Found) (h : Held) → countOf h ≡ counted n h → countOf (found-then f (λ m. more m h)) ≡ counted (suc n) (found-then f (λ m. more m h))
+count-found : (n : ℕ) (f : Found) (h : Held) → countOf h ≡ counted n h → countOf (onFound f (λ m. more m h)) ≡ counted (suc n) (onFound f (λ m. more m h))
 count-found n (found.At m) h e = count-more n m h e
 count-found n (found.Refused k) h e = refl
 
@@ -185,7 +125,7 @@ first-of-more : (m : Member) (h : Held) {ms : List Member} → members ms ≡ mo
 first-of-more m (members os) e = record { first = m; others = os; found-first = refl; held-others = refl; all = cc }
 first-of-more m (refused k) e = absurd (let z : _≡_ {A = ℕ} 0 1 = cc in omega arith)
 
-first-of : (f : Found) (h : Held) {ms : List Member} → members ms ≡ found-then f (λ m. more m h) → First f h ms
+first-of : (f : Found) (h : Held) {ms : List Member} → members ms ≡ onFound f (λ m. more m h) → First f h ms
 first-of (found.At m) h e = first-of-more m h e
 first-of (found.Refused k) h e = absurd (let z : _≡_ {A = ℕ} 0 1 = cc in omega arith)
 
@@ -226,7 +166,7 @@ record Headed (o : Opened) (on : ℕ → Held) (ms : List Member) : Type 0 where
   pub header : o ≡ opened.Count count
   pub held : members ms ≡ on count
 
-headed-of : (o : Opened) (on : ℕ → Held) {ms : List Member} → members ms ≡ count-then o on → Headed o on ms
+headed-of : (o : Opened) (on : ℕ → Held) {ms : List Member} → members ms ≡ onCount o on → Headed o on ms
 headed-of (opened.Count n) on e = record { count = n; header = refl; held = e }
 headed-of (opened.Refused k) on e = absurd (let z : _≡_ {A = ℕ} 0 1 = cc in omega arith)
 

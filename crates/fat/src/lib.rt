@@ -1,32 +1,14 @@
 // A fat Mach-O file (mach-o/fat.h): opened, with every member checked; a member by its index; and its bytes.
 ghost use mathlib.Core.Path.{_≡_};
-ghost use Prim.Native.Nat.{_+_};
-ghost use mathlib.Core.List.{_∷_, []};
-ghost use lib.Dec.{leb};
-ghost use Rattle.fat.specs.Fat.{fatArch, memberOf, headerIn, memberAt, openedIn, foundIn, bytesOf, Inside};
+ghost use Rattle.fat_member.specs.Member.{Inside};
+ghost use Rattle.fat.specs.Fat.{headerIn, openedIn, foundIn, bytesOf};
 use answer::Refusal;
 use cursor::Cursor;
 use cursor::NextWord;
-
-// A member of either form: the offset and the size have room for 64 bits.
-pub struct Member {
-    pub cputype: u32,
-    // Without its top 8 bits, which are `caps`.
-    pub cpusubtype: u32,
-    pub caps: u8,
-    pub offset: u64,
-    pub size: u64,
-    pub align: u32,
-    pub is_64: bool,
-}
+use fat_member::Found;
 
 pub enum Opened {
     Count(u32),
-    Refused(Refusal),
-}
-
-pub enum Found {
-    At(Member),
     Refused(Refusal),
 }
 
@@ -37,8 +19,6 @@ pub struct Part<'a> {
 }
 
 const HEADER: usize = 8;
-
-const ARCH: usize = 20;
 
 const FAT_MAGIC: u32 = 0xCAFEBABE;
 
@@ -55,12 +35,12 @@ pub fn open(file: &[u8]) -> Opened
     let mut left = count;
     let mut at = HEADER;
     while 0 < left {
-        match arch_at(file, at) {
+        match fat_member::read(file, at) {
             Found::At(_) => {}
             Found::Refused(k) => return Opened::Refused(k),
         }
         left -= 1;
-        at += ARCH;
+        at += fat_member::SIZE;
     }
     Opened::Count(count)
 }
@@ -74,7 +54,7 @@ pub fn member_at(file: &[u8], index: usize) -> Found
         Opened::Refused(k) => return Found::Refused(k),
     };
     if index < count as usize {
-        return arch_at(file, HEADER + ARCH * index);
+        return fat_member::read(file, HEADER + fat_member::SIZE * index);
     }
     Found::Refused(Refusal {
         number: answer::NOT_FOUND,
@@ -131,63 +111,4 @@ fn header(file: &[u8]) -> Opened
         });
     }
     Opened::Count(count.value)
-}
-
-// The member that stands at `at`; it must lie in the file.
-fn arch_at(file: &[u8], at: usize) -> Found
-    ensures { λ r. ⌜ r ≡ memberAt fatArch (now (file .entry)) at ⌝ }
-{
-    let cputype = match Cursor::new(at).u32(file, true) {
-        NextWord::Value(t) => t,
-        NextWord::Refused(k) => return Found::Refused(k),
-    };
-    let cpusubtype = match cputype.next.u32(file, true) {
-        NextWord::Value(t) => t,
-        NextWord::Refused(k) => return Found::Refused(k),
-    };
-    let offset = match cpusubtype.next.u32(file, true) {
-        NextWord::Value(t) => t,
-        NextWord::Refused(k) => return Found::Refused(k),
-    };
-    let size = match offset.next.u32(file, true) {
-        NextWord::Value(t) => t,
-        NextWord::Refused(k) => return Found::Refused(k),
-    };
-    if inside(file.len(), offset.value, size.value) {
-        let align = match size.next.u32(file, true) {
-            NextWord::Value(t) => t,
-            NextWord::Refused(k) => return Found::Refused(k),
-        };
-        return Found::At(member_of(
-            cputype.value,
-            cpusubtype.value,
-            offset.value,
-            size.value,
-            align.value,
-        ));
-    }
-    Found::Refused(Refusal {
-        number: answer::PAST_FILE,
-    })
-}
-
-// Whether a member ends within `len` bytes. The sum has more than 32 bits.
-fn inside(len: usize, offset: u32, size: u32) -> bool
-    ensures { λ r. ⌜ r ≡ leb (offset + size) len ⌝ }
-{
-    fields::fits(len, offset as usize, size as usize)
-}
-
-fn member_of(cputype: u32, cpusubtype: u32, offset: u32, size: u32, align: u32) -> Member
-    ensures { λ r. ⌜ r ≡ memberOf fatArch (cputype ∷ cpusubtype ∷ offset ∷ size ∷ align ∷ []) ⌝ }
-{
-    Member {
-        cputype,
-        cpusubtype: cpusubtype % 0x1000000,
-        caps: (cpusubtype / 0x1000000) as u8,
-        offset: offset as u64,
-        size: size as u64,
-        align,
-        is_64: cputype / 0x1000000 % 2 == 1,
-    }
 }

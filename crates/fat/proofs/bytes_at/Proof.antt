@@ -39,14 +39,15 @@ use denote.Triple.Table.{entered, cited}
 use denote.Triple.Walked.{says, Stays, stay-none, stay-none-slice, walkOf, goes-none, goes-none-slice, Walks, ends-at, walked, walk-meets}
 use denote.Exit.{yes}
 use denote.Triple.Clauses.{ensured, lasts}
-use Rattle.fat.specs.Fat.{foundIn, bytesOf, Inside}
+use Rattle.fat_member.specs.Member.{Inside}
+use Rattle.fat.specs.Fat.{foundIn, bytesOf}
 use Rattle.fat.specs.declared.Part.{Part}
-use Rattle.fat.specs.declared.Found.{Found}
+use Rattle.fat_member.specs.declared.Found.{Found}
 use Rattle.fat.proofs.Laws.{found-inside}
 use Rattle.fat.proofs.Part as T
 use Rattle.fat.proofs.Part.Laws as T′
-use Rattle.fat.proofs.Found as S
-use Rattle.fat.proofs.Found.Laws as S′
+use Rattle.fat_member.proofs.Found as S
+use Rattle.fat_member.proofs.Found.Laws as S′
 use Rattle.fat.proofs.member_at as member
 use Rattle.fat.proofs.member_at.Symbol as member-def
 use Rattle.fat.proofs.member_at.Symbol.{name as #fat·member-at}

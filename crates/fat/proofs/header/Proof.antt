@@ -3,7 +3,8 @@
 use native.Mathlib.Omega.{arith}
 use mathlib.Core.Path.{refl, sym, _∙_}
 use Rattle.cursor.proofs.Laws.{word-took, word-cut}
-use Rattle.fat.proofs.Laws.{number-there, header-long, header-no-magic, header-other, header-no-count, header-many, header-count}
+use Rattle.fat_member.proofs.Laws.{number-there}
+use Rattle.fat.proofs.Laws.{header-long, header-no-magic, header-other, header-no-count, header-many, header-count}
 use borrow.Author.Needs.{needs}
 use Rattle.fat.proofs.header.Statement.{statement}
 use Rattle.fat.proofs.header.Tie as tie

@@ -22,17 +22,17 @@ returns c = found-refused _ _ (sym (c .before .k .given .1) ∙ c .before .befor
 cast-if1 : tie.Need-cast-if1
 cast-if1 c = search needs
 
-mul-arch-at : tie.Need-mul-arch-at
-mul-arch-at c = search needs
+mul-read : tie.Need-mul-read
+mul-read c = search needs
 
-add-arch-at : tie.Need-add-arch-at
-add-arch-at c = search needs
+add-read : tie.Need-add-read
+add-read c = search needs
 
-arch-at-requires : tie.Need-arch-at-requires
-arch-at-requires c κs = search needs
+read-requires : tie.Need-read-requires
+read-requires c κs = search needs
 
 returns-2 : tie.Need-returns-2
-returns-2 c = found-at _ _ _ (sym (c .before .before .before .n .given .1) ∙ c .before .before .before .before .before .«open» .ensures) (omega arith) refl (c .arch-at .ensures)
+returns-2 c = found-at _ _ _ (sym (c .before .before .before .n .given .1) ∙ c .before .before .before .before .before .«open» .ensures) (omega arith) refl (c .read .ensures)
 
 returns-3 : tie.Need-returns-3
 returns-3 c = found-past _ _ (sym (c .before .before .n .given .1) ∙ c .before .before .before .before .«open» .ensures) (omega arith) refl
@@ -46,8 +46,8 @@ member-at-spec =
     enum-known-k
     returns
     cast-if1
-    mul-arch-at
-    add-arch-at
-    arch-at-requires
+    mul-read
+    add-read
+    read-requires
     returns-2
     returns-3)

@@ -4,7 +4,8 @@
 use native.Mathlib.Omega.{arith}
 use mathlib.Core.Path.{_≡_, refl, sym, _∙_}
 use Prim.Native.Nat.{_+_, _*_}
-use Rattle.fat.specs.Fat.{fatArch, membersAt}
+use Rattle.fat_member.specs.Member.{fatArch}
+use Rattle.fat.specs.Fat.{membersAt}
 use Rattle.fat.proofs.Laws.{counted, members-on, members-stop, members-none, opened-refused, opened-members}
 use borrow.Author.Needs.{needs}
 use Rattle.fat.proofs.open.Statement.{statement}
@@ -31,8 +32,8 @@ returns c = opened-refused _ (sym (c .before .k .given .1) ∙ c .before .before
 loop-holds : tie.Need-loop-holds Inv-loop μ-loop
 loop-holds c = (omega arith, refl)
 
-arch-at-requires : tie.Need-arch-at-requires Inv-loop μ-loop
-arch-at-requires c κs = search needs
+read-requires : tie.Need-read-requires Inv-loop μ-loop
+read-requires c κs = search needs
 
 enum-told : tie.Need-enum-told Inv-loop μ-loop
 enum-told c = search needs
@@ -41,7 +42,7 @@ enum-known-k-2 : tie.Need-enum-known-k-2 Inv-loop μ-loop
 enum-known-k-2 c = search needs
 
 returns-2 : tie.Need-returns-2 Inv-loop μ-loop
-returns-2 c = opened-members _ (sym (c .before .before .before .before .before .before .before .n .given .1) ∙ c .before .before .before .before .before .before .before .before .before .header .ensures) (sym (c .before .before .before .before .before .loop .inv .1 ∙ members-stop fatArch _ _ _ _ (c .before .before .before .before .loop-test .taken) (sym (c .before .k2 .given .1) ∙ c .before .before .before .arch-at .ensures)))
+returns-2 c = opened-members _ (sym (c .before .before .before .before .before .before .before .n .given .1) ∙ c .before .before .before .before .before .before .before .before .before .header .ensures) (sym (c .before .before .before .before .before .loop .inv .1 ∙ members-stop fatArch _ _ _ _ (c .before .before .before .before .loop-test .taken) (sym (c .before .k2 .given .1) ∙ c .before .before .before .read .ensures)))
 
 sub-left : tie.Need-sub-left Inv-loop μ-loop
 sub-left c = search needs
@@ -53,7 +54,7 @@ loop-less : tie.Need-loop-less Inv-loop μ-loop
 loop-less c = search needs
 
 loop-again : tie.Need-loop-again Inv-loop μ-loop
-loop-again c = (omega arith, c .before .before .before .before .loop .inv .1 ∙ members-on fatArch _ _ _ _ (c .before .before .before .loop-test .taken) (sym (c .enum-told .given .1) ∙ c .before .before .arch-at .ensures))
+loop-again c = (omega arith, c .before .before .before .before .loop .inv .1 ∙ members-on fatArch _ _ _ _ (c .before .before .before .loop-test .taken) (sym (c .enum-told .given .1) ∙ c .before .before .read .ensures))
 
 returns-3 : tie.Need-returns-3 Inv-loop μ-loop
 returns-3 c = opened-members _ (sym (c .before .before .before .n .given .1) ∙ c .before .before .before .before .before .header .ensures) (sym (c .before .loop .inv .1 ∙ members-none fatArch _ _ _ _ (omega arith)))
@@ -69,7 +70,7 @@ open-spec =
     enum-known-k
     returns
     loop-holds
-    arch-at-requires
+    read-requires
     enum-told
     enum-known-k-2
     returns-2

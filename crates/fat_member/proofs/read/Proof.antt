@@ -1,4 +1,4 @@
--- `fat::arch_at` meets its contract: each field is taken where the one before it ends, and each return is a case of `memberAt`.
+-- `fat_member::read` meets its contract: each field is taken where the one before it ends, and each return is a case of `memberAt`.
 -- Assumes nothing.
 use native.Mathlib.Omega.{arith}
 use mathlib.Core.Path.{refl, sym, _∙_}
@@ -7,11 +7,11 @@ use lib.ListN.{length}
 use borrow.Author.Tests.{leb-true, leb-false}
 use Rattle.layout.specs.Layout.{numbersAt}
 use Rattle.cursor.proofs.Laws.{word-took, word-cut}
-use Rattle.fat.specs.Fat.{fatArch}
-use Rattle.fat.proofs.Laws.{number-there, member-no-front, member-past, member-no-back, member-whole}
+use Rattle.fat_member.specs.Member.{fatArch}
+use Rattle.fat_member.proofs.Laws.{number-there, member-no-front, member-past, member-no-back, member-whole}
 use borrow.Author.Needs.{needs}
-use Rattle.fat.proofs.arch_at.Statement.{statement}
-use Rattle.fat.proofs.arch_at.Tie as tie
+use Rattle.fat_member.proofs.read.Statement.{statement}
+use Rattle.fat_member.proofs.read.Tie as tie
 
 new-requires : tie.Need-new-requires
 new-requires c κs = search needs
@@ -126,7 +126,7 @@ returns-6 c =
     let n3 = number-there {at = c .before .before .before .before .before .before .before .before .before .before .before .before .before .before .before .before .before .before .before .before .before .before .before .before .before .args .at + 4 + 4 + 4} f3 (omega arith) in
     let n4 = number-there {at = c .before .before .before .before .before .before .before .before .before .before .before .before .before .before .before .before .before .before .before .before .before .before .before .before .before .args .at + 16} f4 (omega arith) in
     let h : c .before .before .before .before .before .before .before .before .before .before .before .before .t3 .given .0 .0 .value + c .before .before .before .before .before .before .before .before .t4 .given .0 .0 .value ≤ length (c .before .before .before .before .before .before .before .before .before .before .before .before .before .before .before .before .before .before .before .before .before .before .before .before .before .args .file .now) = leb-true _ _ (sym (c .before .before .before .before .before .before .inside .ensures) ∙ c .before .before .before .before .before .if1 .taken) in
-    member-whole fatArch _ _ (omega arith) (omega arith) (omega arith) (c .member-of .ensures ∙ rw (n0, n1, n2, n3, n4) refl)
+    member-whole fatArch _ _ (omega arith) (omega arith) (omega arith) (rw (← n0, ← n1, ← n2, ← n3, ← n4) (c .member-of .ensures))
 
 returns-7 : tie.Need-returns-7
 unfolding numbersAt
@@ -141,8 +141,8 @@ returns-7 c =
     let h : length (c .before .before .before .before .before .before .before .before .before .before .before .before .before .before .before .before .before .before .before .before .args .file .now) < c .before .before .before .before .before .before .before .t3 .given .0 .0 .value + c .before .before .before .t4 .given .0 .0 .value = leb-false _ _ (sym (c .before .inside .ensures) ∙ c .if1 .left) in
     member-past fatArch _ _ (omega arith) (omega arith) refl
 
-pub arch-at-spec : {M : Type 1} → statement M
-arch-at-spec =
+pub read-spec : {M : Type 1} → statement M
+read-spec =
     tie.close
     (tie.spec
     new-requires

@@ -1,0 +1,2 @@
+-- `Laws` has what the proofs of readers cite.
+pub mod Laws
