@@ -24,7 +24,7 @@ use Rattle.fat_member.specs.declared.Member.{Member}
 use Rattle.fat_member.specs.declared.Found.{Found}
 use Rattle.fat_member.specs.declared.Found.the-variants as found
 use Rattle.fat_member.proofs.Laws.{member-inside}
-use Rattle.fat.specs.Fat.{fatMagic, memberLimit, headerIn, Held, members, refused, more, onFound, onCount, membersAt, heldIn, countOf, openedIn, nth, nthOf, foundIn, bytesOf}
+use Rattle.fat.specs.Fat.{fatMagic, memberLimit, headerIn, Held, members, refused, more, onFound, onCount, membersAt, heldIn, countOf, openedIn, nth, nthOf, foundIn, bytesOf, startOf}
 use Rattle.fat.specs.declared.Opened.{Opened}
 use Rattle.fat.specs.declared.Opened.the-variants as opened
 
@@ -220,13 +220,16 @@ pub found-inside : (s : List ℕ) (i : ℕ) → Inside s (foundIn s i)
 unfolding foundIn
 found-inside s i = held-inside s (heldIn s) i (λ ms e l. rw (← listed-at s i e l) (member-inside s (8 + i * 20)))
 
--- The part of an accepted member.
-module _ (s : List ℕ) {f : Found} {m : Member} (is : f ≡ found.At m) where
-  pub inside-is : Inside s f → m .offset + m .size ≤ length s
-  inside-is h = rw is at h
+-- The part that an answer names, of the file at `p`.
+module _ (s : List ℕ) (p : ℕ × ℕ) {f : Found} where
+  pub inside-is : {m : Member} → f ≡ found.At m → Inside s f → m .offset + m .size ≤ length s
+  inside-is is h = rw is at h
 
-  pub bytes-are : take (m .offset + m .size - m .offset) (drop (m .offset) s) ≡ bytesOf s f
-  bytes-are = let e : m .offset + m .size - m .offset ≡ m .size = omega arith in rw (is, e)
+  pub part-is : {m : Member} → f ≡ found.At m → (take (m .offset + m .size - m .offset) (drop (m .offset) s) ≡ bytesOf s f) × ((p .0, m .offset + p .1) ≡ startOf p f)
+  part-is {m} is =
+      let e : m .offset + m .size - m .offset ≡ m .size = omega arith in
+      let d : m .offset + p .1 ≡ p .1 + m .offset = omega arith in
+      rw (is, e, d) (refl, refl)
 
-pub no-bytes : (s : List ℕ) {f : Found} {k : Refusal} → f ≡ found.Refused k → [] ≡ bytesOf s f
-no-bytes s e = rw e
+  pub part-none : {k : Refusal} → f ≡ found.Refused k → ([] ≡ bytesOf s f) × ((p .0, 0 + p .1) ≡ startOf p f)
+  part-none is = let d : 0 + p .1 ≡ p .1 = omega arith in rw (is, d) (refl, refl)

@@ -99,3 +99,8 @@ foundIn s i = nthOf (heldIn s) i
 abbrev pub bytesOf : List ℕ → Found → List ℕ
 bytesOf s (found.At m) = take (m .size) (drop (m .offset) s)
 bytesOf s (found.Refused k) = []
+
+-- Where they lie, from where the file lies: `offset` bytes on.
+abbrev pub startOf : ℕ × ℕ → Found → ℕ × ℕ
+startOf p (found.At m) = (p .0, p .1 + m .offset)
+startOf p (found.Refused k) = p

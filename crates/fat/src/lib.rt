@@ -1,7 +1,7 @@
 // A fat Mach-O file (mach-o/fat.h): opened, with every member checked; a member by its index; and its bytes.
 ghost use mathlib.Core.Path.{_≡_};
 ghost use Rattle.fat_member.specs.Member.{Inside};
-ghost use Rattle.fat.specs.Fat.{headerIn, openedIn, foundIn, bytesOf};
+ghost use Rattle.fat.specs.Fat.{headerIn, openedIn, foundIn, bytesOf, startOf};
 use answer::Refusal;
 use cursor::Cursor;
 use cursor::NextWord;
@@ -63,7 +63,7 @@ pub fn member_at(file: &[u8], index: usize) -> Found
 
 // The member with that index and the part of the file that it occupies.
 pub fn bytes_at<'a>(file: &'a [u8], index: usize) -> Part<'a>
-    ensures { λ r. ⌜ (r .found ≡ foundIn (now (file .entry)) index) × (now (r .bytes) ≡ bytesOf (now (file .entry)) (foundIn (now (file .entry)) index)) ⌝ }
+    ensures { λ r. ⌜ (r .found ≡ foundIn (now (file .entry)) index) × (now (r .bytes) ≡ bytesOf (now (file .entry)) (foundIn (now (file .entry)) index)) × (r .bytes .ptr ≡ startOf (file .entry .ptr) (foundIn (now (file .entry)) index)) ⌝ }
 {
     let found = member_at(file, index);
     let bytes = slice(file, found);
@@ -72,7 +72,7 @@ pub fn bytes_at<'a>(file: &'a [u8], index: usize) -> Part<'a>
 
 fn slice(file: &[u8], found: Found) -> &[u8]
     requires { ⌜ Inside (now file) found ⌝ }
-    ensures { λ r. ⌜ now r ≡ bytesOf (now (file .entry)) found ⌝ }
+    ensures { λ r. ⌜ (now r ≡ bytesOf (now (file .entry)) found) × (r .ptr ≡ startOf (file .entry .ptr) found) ⌝ }
 {
     match found {
         Found::At(m) => {

@@ -40,7 +40,7 @@ use denote.Triple.Walked.{says, Stays, stay-none, stay-none-slice, walkOf, goes-
 use denote.Exit.{yes}
 use denote.Triple.Clauses.{ensured, lasts}
 use Rattle.fat_member.specs.Member.{Inside}
-use Rattle.fat.specs.Fat.{foundIn, bytesOf}
+use Rattle.fat.specs.Fat.{foundIn, bytesOf, startOf}
 use Rattle.fat.specs.declared.Part.{Part}
 use Rattle.fat_member.specs.declared.Found.{Found}
 use Rattle.fat.proofs.Laws.{found-inside}
@@ -117,8 +117,12 @@ module _ {M : Type 1} (𝓤 : URA M) (H : Heap 𝓤) (A : Atoms 𝓤) (W : Given
       move ! (1 ∷ []) $ use1 W (‵ Own ⊛ ‵ Own) (shr-slice-copy 𝓤 H A W (named 0) κ u8 .twice s (v ∷ [])) $ split ! $
       move ! (2 ∷ 0 ∷ []) $ use2 W (raw (Slices 𝓤 H A mem run .pre (to-slice f u))) (asked f u is within) $ frame ! $ done !
 
-  slice-said : (f : Found) (b : RefT (List ℕ)) → ent 𝓤 (ensured 𝓤 H A slice.ended (slice.clauses 𝓤 H A mem run) (κ, tt) (s, (f, tt)) tt b) (fact 𝓤 (now b ≡ bytesOf (now s) f))
-  slice-said f b = exE 𝓤 _ (λ ws. snd∗ 𝓤 (sem 𝓤 H A (lasts slice.ended (κ, tt) (s, (f, tt)) ws)) (fact 𝓤 (now b ≡ bytesOf (now s) f)))
+  -- what it says of the part b
+  abbrev Handed : Found → RefT (List ℕ) → Type 0
+  Handed f b = (now b ≡ bytesOf (now s) f) × (b .ptr ≡ startOf (s .ptr) f)
+
+  slice-said : (f : Found) (b : RefT (List ℕ)) → ent 𝓤 (ensured 𝓤 H A slice.ended (slice.clauses 𝓤 H A mem run) (κ, tt) (s, (f, tt)) tt b) (fact 𝓤 (Handed f b))
+  slice-said f b = exE 𝓤 _ (λ ws. snd∗ 𝓤 (sem 𝓤 H A (lasts slice.ended (κ, tt) (s, (f, tt)) ws)) (fact 𝓤 (Handed f b)))
 
   -- the result, of the found member and the part, and its machine value
   abbrev made : Found → RefT (List ℕ) → Part
@@ -130,10 +134,10 @@ module _ {M : Type 1} (𝓤 : URA M) (H : Heap 𝓤) (A : Atoms 𝓤) (W : Given
   abbrev held : Found → RefT (List ℕ) → List Val × (List Val × Unit {0}) → Fml
   held f b vss = fsep (S.the-row .own f (vss .0)) (fsep (ShrSlice (named 0) κ u8 .own b (vss .1 .0)) ftrue)
 
-  exits : (f : Found) (b : RefT (List ℕ)) (m : Val) → f ≡ foundIn (now s) i → now b ≡ bytesOf (now s) f → ent 𝓤 (⋆ 𝓤 H A (‵ (T.the-row α .own (made f b) (m ∷ [])) ∷ (‵ (flft κ q) ⊛ ‵ ftrue) ∷ ‵ Own ∷ [])) (Post m)
+  exits : (f : Found) (b : RefT (List ℕ)) (m : Val) → f ≡ foundIn (now s) i → Handed f b → ent 𝓤 (⋆ 𝓤 H A (‵ (T.the-row α .own (made f b) (m ∷ [])) ∷ (‵ (flft κ q) ⊛ ‵ ftrue) ∷ ‵ Own ∷ [])) (Post m)
   exits f b m e d =
       qed W (‵ (T.the-row α .own (made f b) (m ∷ [])) ∷ (‵ (flft κ q) ⊛ ‵ ftrue) ∷ ‵ Own ∷ []) ∵
-      suffices ! _ (ends-at 𝓤 H A bytes.ended stayed (bytes.clauses 𝓤 H A mem run) W (((κ, tt), (q, tt), tt, (s, (i, tt)), passed), tt) m (made f b) (tt, (tt, tt)) (tt, (tt, tt))) $ says ! (e, d ∙ ap (bytesOf (now s)) e) $
+      suffices ! _ (ends-at 𝓤 H A bytes.ended stayed (bytes.clauses 𝓤 H A mem run) W (((κ, tt), (q, tt), tt, (s, (i, tt)), passed), tt) m (made f b) (tt, (tt, tt)) (tt, (tt, tt))) $ says ! (e, d .0 ∙ ap (bytesOf (now s)) e, d .1 ∙ ap (startOf (s .ptr)) e) $
       move ! (1 ∷ []) $ frame ! $ nothing ! $ owned ! usize (Is usize) (uint-makes 𝓤 H A W w64) i _ (refl, ok) $ fjoin ! $ move ! (2 ∷ 0 ∷ []) $ fjoin ! $ frame ! $ done !
 
   within : (f : Found) → f ≡ foundIn (now s) i → Inside (now s) f
@@ -156,7 +160,7 @@ module _ {M : Type 1} (𝓤 : URA M) (H : Heap 𝓤) (A : Atoms 𝓤) (W : Given
         use2 W (raw (Slices 𝓤 H A mem run .pre (to-slice f u)) ⊛ ‵ Own) (goes-slice f u is (within f e)) $ split ! $
         calls-at ! fm (Slices 𝓤 H A mem run) known-slice (to-slice f u) (and-then ! (load ! (from ! (stop !)) (look ! 8 refl)) (and-then ! (load ! (from ! (stop !)) (look ! 4 refl)) (no-more !))) (λ w.
         use1 W (later (some (λ (b : RefT (List ℕ)). ((‵ (flft κ q) ⊛ ‵ ftrue) ⊛ ‵ (ShrSlice (named 0) κ u8 .own b (w ∷ []))) ⊛ raw (ensured 𝓤 H A slice.ended (slice.clauses 𝓤 H A mem run) (κ, tt) (s, (f, tt)) tt b)))) (id⊢ 𝓤 _) $ await ! tt $ pick ! (λ b.
-        split ! $ move ! (1 ∷ []) $ use1 W (raw (fact 𝓤 (now b ≡ bytesOf (now s) f))) (slice-said f b) $ heard ! (now b ≡ bytesOf (now s) f) (λ d. split ! $ move ! (1 ∷ []) $
+        split ! $ move ! (1 ∷ []) $ use1 W (raw (fact 𝓤 (Handed f b))) (slice-said f b) $ heard ! (Handed f b) (λ d. split ! $ move ! (1 ∷ []) $
         -- [what the part owns; the token; what the file owns; room for _4; …; _3; …; _2; …; _1; …; room for _0; …]
         peeks ! (ShrSlice (named 0) κ u8) (Is (ShrSlice (named 0) κ u8)) (shows 𝓤 H A (ShrSlice (named 0) κ u8)) b (w ∷ []) (λ is′.
         land ! (from ! (stop !)) (init ! 3 refl (shr-slice-lawful 𝓤 H A W erased κ u8 .typed b (w ∷ []) is′ .0)) $
