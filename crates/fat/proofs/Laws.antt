@@ -9,7 +9,7 @@ use native.Mathlib.Nat.{not-suc-le-zero, le-of-suc-le-suc}
 use native.Mathlib.Omega.{arith}
 use lib.ListN.{length, getD, take, drop}
 use lib.Dec.{leb, eqb}
-use borrow.Author.Tests.{le-leb, lt-leb, eq-eqb, ne-eqb}
+use borrow.Author.Tests.{le-leb, lt-leb, leb-true, eq-eqb, ne-eqb, eqb-true}
 use Rattle.answer.specs.Answer.{refuse, cut, magic, limit, notFound, pastFile}
 use Rattle.answer.specs.Test.{fileLimit, must}
 use Rattle.answer.specs.declared.Refusal.{Refusal}
@@ -18,13 +18,15 @@ use Rattle.fields.specs.Number.{numberAt}
 use Rattle.fields.proofs.Laws.{Missed, le-or-lt}
 use Rattle.layout.specs.Layout.{Field, widths, size, numbersAt}
 use Rattle.layout.proofs.Laws.{missed-at, full-is}
+use Rattle.layout.proofs.Theorems.{reads}
 use Rattle.fat_member.specs.Fields.{bytesIn}
 use Rattle.fat_member.specs.Member.{fatArch, memberAt, Inside}
 use Rattle.fat_member.specs.declared.Member.{Member}
 use Rattle.fat_member.specs.declared.Found.{Found}
 use Rattle.fat_member.specs.declared.Found.the-variants as found
-use Rattle.fat_member.proofs.Laws.{member-inside}
+use Rattle.fat_member.proofs.Laws.{told-must, told-reads, member-inside}
 use Rattle.fat.specs.Fat.{fatMagic, memberLimit, headerIn, Held, members, refused, more, onFound, onCount, membersAt, heldIn, countOf, openedIn, nth, nthOf, foundIn, bytesOf, startOf}
+use Rattle.fat.proofs.Terms.{Header, There}
 use Rattle.fat.specs.declared.Opened.{Opened}
 use Rattle.fat.specs.declared.Opened.the-variants as opened
 
@@ -75,6 +77,30 @@ module _ (s : List ℕ) where
           (full-is true s _ _ (4 ∷ []) 4 h
           (must-on opened.Refused _ limit _ (le-leb (numberAt true 4 s 4) memberLimit (omega arith)) (ap opened.Count e)))))
 
+never : {n : ℕ} {k : Refusal} → opened.Count n ≡ opened.Refused k → ⊥
+never e = let z : _≡_ {A = ℕ} 0 1 = cc in omega arith
+
+same-count : {n m : ℕ} → opened.Count n ≡ opened.Count m → n ≡ m
+same-count e = cc
+
+pub header-told : (s : List ℕ) (n : ℕ) → opened.Count n ≡ headerIn s → Header s n
+unfolding headerIn numbersAt
+header-told s =
+    let P : Opened → Type 0 = λ o. (n : ℕ) → opened.Count n ≡ o → Header s n in
+    let refusals : (k : Refusal) → P (opened.Refused k) = λ k n e. absurd (never e) in
+    told-must opened.Refused P refusals (leb (length s) fileLimit) limit _
+    (λ a. told-reads opened.Refused P refusals (reads _ _ true (4 ∷ []) s 0)
+    (λ r. told-must opened.Refused P refusals (eqb (numberAt true 4 s 0) fatMagic) magic _
+    (λ b. told-reads opened.Refused P refusals (reads _ _ true (4 ∷ []) s 4)
+    (λ q. told-must opened.Refused P refusals (leb (numberAt true 4 s 4) memberLimit) limit _
+    (λ d n e. record {
+      short = leb-true (length s) fileLimit a;
+      room = q (omega arith);
+      right = eqb-true (numberAt true 4 s 0) fatMagic b;
+      count = same-count e;
+      few = rw (same-count e) (leb-true (numberAt true 4 s 4) memberLimit d);
+    })))))
+
 -- The members, one after the other. How many are asked for is what an accepting answer counts.
 abbrev pub counted : ℕ → Held → Opened
 counted n (members ms) = opened.Count n
@@ -113,6 +139,19 @@ module _ (arch : List Field) (s : List ℕ) where
   members-none zero at c h = refl
   members-none (suc n) at c h = absurd (not-suc-le-zero h)
 
+-- after `i` accepted members, the answer is that of the others
+members-after : (arch : List Field) (s : List ℕ) (i n at c : ℕ) → i ≤ n → ((j : ℕ) → j < i → There (memberAt arch s (at + j * bytesIn arch))) → counted c (membersAt arch n s at) ≡ counted c (membersAt arch (n - i) s (at + i * bytesIn arch))
+members-after arch s zero n at c h g =
+    let e : n - 0 ≡ n = omega arith in
+    let d : at + 0 * bytesIn arch ≡ at = omega arith in
+    rw (e, d)
+members-after arch s (suc i) n at c h g =
+    let t = g i (omega arith) in
+    let e : n - i - 1 ≡ n - suc i = omega arith in
+    let d : at + i * bytesIn arch + bytesIn arch ≡ at + suc i * bytesIn arch = omega arith in
+    members-after arch s i n at c (omega arith) (λ j l. g j (omega arith))
+    ∙ (members-on arch s (n - i) (at + i * bytesIn arch) c (omega arith) (t .is) ∙ rw (e, d))
+
 -- what an accepting list says of its first member and of the others
 record First (f : Found) (h : Held) (ms : List Member) : Type 0 where
   pub first : Member
@@ -145,6 +184,11 @@ nth-past : (ms : List Member) (i : ℕ) → length ms ≤ i → found.Refused (r
 nth-past [] i h = refl
 nth-past (m ∷ ms) zero h = absurd (not-suc-le-zero h)
 nth-past (m ∷ ms) (suc i) h = nth-past ms i (le-of-suc-le-suc h)
+
+nth-there : (ms : List Member) (i : ℕ) → i < length ms → There (nth ms i)
+nth-there [] i h = absurd (not-suc-le-zero h)
+nth-there (m ∷ ms) zero h = record { member = m; is = refl }
+nth-there (m ∷ ms) (suc i) h = nth-there ms i (le-of-suc-le-suc h)
 
 -- what an accepting answer says of the list behind it
 pub record Listed (h : Held) (n : ℕ) : Type 0 where
@@ -180,6 +224,25 @@ module _ (s : List ℕ) where
   unfolding openedIn heldIn
   opened-members {n} e f = rw (← e, count-members fatArch s n 8) f
 
+  -- a count that is answered is the header's
+  headed-count : {c n : ℕ} {ms : List Member} → members ms ≡ membersAt fatArch c s 8 → n ≡ length ms → n ≡ c
+  headed-count {c} {n} {ms} e l = l ∙ same-count (rw (← e) at (count-members fatArch s c 8))
+
+  pub opened-header : {n : ℕ} → opened.Count n ≡ openedIn s → opened.Count n ≡ headerIn s
+  unfolding openedIn heldIn
+  opened-header {n} e =
+      let l = listed-of (heldIn s) e in
+      let r = headed-of (headerIn s) (λ c. membersAt fatArch c s 8) (l .held) in
+      ap opened.Count (headed-count (r .held) (l .many)) ∙ sym (r .header)
+
+  -- the first member that is refused is the answer; if there is none, it is the count
+  module _ {n : ℕ} (e : opened.Count n ≡ headerIn s) (i : ℕ) (g : (j : ℕ) → j < i → There (memberAt fatArch s (8 + j * 20))) where
+    pub opened-stop : {k : Refusal} → i < n → found.Refused k ≡ memberAt fatArch s (8 + i * 20) → opened.Refused k ≡ openedIn s
+    opened-stop h r = opened-members e (sym (members-after fatArch s i n 8 n (omega arith) g ∙ members-stop fatArch s (n - i) (8 + i * 20) n (omega arith) r))
+
+    pub opened-all : i ≡ n → opened.Count n ≡ openedIn s
+    opened-all h = opened-members e (sym (members-after fatArch s i n 8 n (omega arith) g ∙ members-none fatArch s (n - i) (8 + i * 20) n (omega arith)))
+
   pub listed-in : {n : ℕ} → opened.Count n ≡ openedIn s → Listed (heldIn s) n
   unfolding openedIn
   listed-in e = listed-of (heldIn s) e
@@ -203,6 +266,12 @@ module _ (s : List ℕ) where
       let l = listed-in e in
       let q : at ≡ 8 + i * 20 = omega arith in
       f ∙ (rw q (listed-at i (l .held) (rw (l .many) at h)) ∙ found-of i (l .held))
+
+  pub found-there : {n : ℕ} (i : ℕ) → opened.Count n ≡ openedIn s → i < n → There (memberAt fatArch s (8 + i * 20))
+  found-there i e h =
+      let l = listed-in e in
+      let k : i < length (l .list) = rw (l .many) at h in
+      rw (listed-at i (l .held) k) (nth-there (l .list) i k)
 
   pub found-past : {n : ℕ} (i : ℕ) {q : Refusal} → opened.Count n ≡ openedIn s → n ≤ i → q ≡ refuse notFound → found.Refused q ≡ foundIn s i
   found-past i e h f =

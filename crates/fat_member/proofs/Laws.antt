@@ -2,18 +2,18 @@
 -- Assumes nothing.
 use mathlib.Core.Path.{_≡_, refl, ap, _∙_}
 use mathlib.Core.List.{List, _++_}
-use mathlib.Core.Bool.{Bool, true}
-use mathlib.Core.Logic.{⊎-elim}
+use mathlib.Core.Bool.{Bool, true, false}
 use Prim.Native.Nat.{ℕ, _+_, _≤_, _<_}
+use native.Mathlib.Omega.{arith}
 use lib.ListN.{length, getD, take}
 use lib.Dec.{leb}
-use borrow.Author.Tests.{le-leb, lt-leb}
+use borrow.Author.Tests.{le-leb, lt-leb, leb-true}
 use Rattle.answer.specs.Answer.{refuse, cut, pastFile}
 use Rattle.answer.specs.Test.{must}
 use Rattle.answer.specs.declared.Refusal.{Refusal}
 use Rattle.answer.proofs.Laws.{must-on, must-off}
 use Rattle.fields.specs.Number.{numberAt}
-use Rattle.fields.proofs.Laws.{Missed, le-or-lt}
+use Rattle.fields.proofs.Laws.{Missed}
 use Rattle.cursor.proofs.Laws.{Took}
 use Rattle.layout.specs.Layout.{Field, widths, size, numbersAt}
 use Rattle.layout.proofs.Laws.{missed-at, full-is}
@@ -63,24 +63,35 @@ module _ (arch : List Field) (s : List ℕ) (at : ℕ) where
           (must-on Refused _ pastFile _ (le-leb (the arch "offset" front + the arch "size" front) (length s) within)
           (full-is true s _ _ (widths (behind "size" arch)) (at + bytesIn (upTo "size" arch)) h (ap At e)))
 
--- What is told of every answer of a check or of a reading is told of its accepting answer alone.
-inside-must : (s : List ℕ) (a b number : ℕ) (on : Found) → (a ≤ b → Inside s on) → Inside s (must Refused (leb a b) number on)
-inside-must s a b number on h =
-    ⊎-elim
-    (λ l. rw (← must-on Refused (leb a b) number on (le-leb a b l) refl) (h l))
-    (λ l. rw (← must-off Refused (leb a b) number on (lt-leb a b l) refl) tt)
-    (le-or-lt a b)
+-- the numbers of the two parts are those of the whole record
+pub numbers-parts : (s : List ℕ) (at : ℕ) → front fatArch s at ++ back fatArch s at ≡ numbersAt true (widths fatArch) s at
+unfolding numbersAt
+numbers-parts s at = let e : at + 4 + 4 + 4 + 4 ≡ at + 16 = omega arith in rw e
 
-inside-reads : (s : List ℕ) {full x : Found} {ws : List ℕ} {at : ℕ} → Reads full (λ end. Refused (cut end)) ws s at x → Inside s full → Inside s x
-inside-reads s (layout.whole r e) h = rw e h
-inside-reads s (layout.cut n a b e) h = rw e tt
+-- What holds of every refusal, and of what comes after a check that is passed, holds of the answer.
+module _ {A : Type 0} (refusal : Refusal → A) (P : A → Type 0) (refusals : (k : Refusal) → P (refusal k)) where
+  pub told-must : (test : Bool) (number : ℕ) (on : A) → (test ≡ true → P on) → P (must refusal test number on)
+  unfolding must
+  told-must true number on h = h refl
+  told-must false number on h = refusals (refuse number)
+
+  pub told-reads : {s : List ℕ} {full x : A} {ws : List ℕ} {at : ℕ} → Reads full (λ end. refusal (cut end)) ws s at x → ((0 < length ws → at + size ws ≤ length s) → P full) → P x
+  told-reads (layout.whole r e) h = rw e (h r)
+  told-reads (layout.cut n a b e) h = rw e (refusals (cut n))
+
+-- The same of a member.
+pub told-member : (P : Found → Type 0) → ((k : Refusal) → P (Refused k)) → (s : List ℕ) (at : ℕ) → (at + 20 ≤ length s → the fatArch "offset" (front fatArch s at) + the fatArch "size" (front fatArch s at) ≤ length s → P (At (memberOf fatArch (front fatArch s at ++ back fatArch s at)))) → P (memberAt fatArch s at)
+unfolding memberAt
+told-member P refusals s at h =
+    let ns : List ℕ = front fatArch s at in
+    let end : ℕ = the fatArch "offset" ns + the fatArch "size" ns in
+    let on : List ℕ → Found = λ ms. At (memberOf fatArch (ns ++ ms)) in
+    told-reads Refused P refusals (reads _ _ true (widths (upTo "size" fatArch)) s at)
+    (λ r. told-must Refused P refusals (leb end (length s)) pastFile (reading Refused (behind "size" fatArch) s (at + 16) on)
+    (λ t. told-reads Refused P refusals (reads on _ true (widths (behind "size" fatArch)) s (at + 16))
+    (λ q. h (omega (arith, q (omega arith))) (leb-true end (length s) t))))
 
 -- a member that is accepted ends within the file
 pub member-inside : (s : List ℕ) (at : ℕ) → Inside s (memberAt fatArch s at)
-unfolding memberAt numbersAt
-member-inside s at =
-    let ns : List ℕ = front fatArch s at in
-    let on : List ℕ → Found = λ ms. At (memberOf fatArch (ns ++ ms)) in
-    inside-reads s (reads _ _ true (widths (upTo "size" fatArch)) s at)
-    (inside-must s (the fatArch "offset" ns + the fatArch "size" ns) (length s) pastFile (reading Refused (behind "size" fatArch) s (at + 16) on)
-    (λ h. inside-reads s (reads on _ true (widths (behind "size" fatArch)) s (at + 16)) h))
+unfolding numbersAt
+member-inside s at = told-member (Inside s) (λ k. tt) s at (λ h l. l)
