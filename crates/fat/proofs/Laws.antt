@@ -1,22 +1,22 @@
 -- The laws of `specs/Fat.antt`: a law for each way that an answer comes about, and what an answer tells.
 -- Assumes nothing.
 use mathlib.Core.Path.{_≡_, refl, sym, ap, _∙_}
-use mathlib.Core.List.{List, [], _∷_, _++_}
-use mathlib.Core.Bool.{Bool, true}
+use mathlib.Core.List.{List, [], _∷_}
+use mathlib.Core.Bool.{true}
 use mathlib.Core.Logic.{⊎-elim}
 use Prim.Native.Nat.{ℕ, zero, suc, _+_, _*_, _-_, _≤_, _<_}
 use native.Mathlib.Nat.{not-suc-le-zero, le-of-suc-le-suc}
 use native.Mathlib.Omega.{arith}
-use lib.ListN.{length, getD, take, drop}
+use lib.ListN.{length, take, drop}
 use lib.Dec.{leb, eqb}
 use borrow.Author.Tests.{le-leb, lt-leb, leb-true, eq-eqb, ne-eqb, eqb-true}
-use Rattle.answer.specs.Answer.{refuse, cut, magic, limit, notFound, pastFile}
-use Rattle.answer.specs.Test.{fileLimit, must}
+use Rattle.answer.specs.Answer.{refuse, magic, limit, notFound}
+use Rattle.answer.specs.Test.{fileLimit}
 use Rattle.answer.specs.declared.Refusal.{Refusal}
 use Rattle.answer.proofs.Laws.{must-on, must-off}
 use Rattle.fields.specs.Number.{numberAt}
 use Rattle.fields.proofs.Laws.{Missed, le-or-lt}
-use Rattle.layout.specs.Layout.{Field, widths, size, numbersAt}
+use Rattle.layout.specs.Layout.{Field, numbersAt}
 use Rattle.layout.proofs.Laws.{missed-at, full-is}
 use Rattle.layout.proofs.Theorems.{reads}
 use Rattle.fat_member.specs.Fields.{bytesIn}
@@ -77,6 +77,7 @@ module _ (s : List ℕ) where
           (full-is true s _ _ (4 ∷ []) 4 h
           (must-on opened.Refused _ limit _ (le-leb (numberAt true 4 s 4) memberLimit (omega arith)) (ap opened.Count e)))))
 
+-- What an accepted header says.
 never : {n : ℕ} {k : Refusal} → opened.Count n ≡ opened.Refused k → ⊥
 never e = let z : _≡_ {A = ℕ} 0 1 = cc in omega arith
 
@@ -289,11 +290,11 @@ pub found-inside : (s : List ℕ) (i : ℕ) → Inside s (foundIn s i)
 unfolding foundIn
 found-inside s i = held-inside s (heldIn s) i (λ ms e l. rw (← listed-at s i e l) (member-inside s (8 + i * 20)))
 
+pub inside-is : (s : List ℕ) {f : Found} {m : Member} → f ≡ found.At m → Inside s f → m .offset + m .size ≤ length s
+inside-is s is h = rw is at h
+
 -- The part that an answer names, of the file at `p`.
 module _ (s : List ℕ) (p : ℕ × ℕ) {f : Found} where
-  pub inside-is : {m : Member} → f ≡ found.At m → Inside s f → m .offset + m .size ≤ length s
-  inside-is is h = rw is at h
-
   pub part-is : {m : Member} → f ≡ found.At m → (take (m .offset + m .size - m .offset) (drop (m .offset) s) ≡ bytesOf s f) × ((p .0, m .offset + p .1) ≡ startOf p f)
   part-is {m} is =
       let e : m .offset + m .size - m .offset ≡ m .size = omega arith in

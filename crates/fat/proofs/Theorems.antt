@@ -1,6 +1,6 @@
 -- What is proved of a fat file, for every file.
 -- Assumes nothing.
-use mathlib.Core.Path.{_≡_, refl, sym, ap, _∙_}
+use mathlib.Core.Path.{_≡_, refl, sym}
 use mathlib.Core.List.{List, _++_, append-assoc}
 use mathlib.Core.Bool.{true}
 use Prim.Native.Nat.{ℕ, suc, _+_, _≤_, _<_}
@@ -21,7 +21,7 @@ use Rattle.fat_member.specs.declared.Member.{Member}
 use Rattle.fat_member.specs.declared.Found.{Found}
 use Rattle.fat_member.specs.declared.Found.the-variants as found
 use Rattle.fat_member.proofs.Theorems.{fieldsAt, endAt, end-at-length, end-past}
-use Rattle.fat.specs.Fat.{fatHeader, fatMagic, memberLimit, openedIn, foundIn, bytesOf, startOf}
+use Rattle.fat.specs.Fat.{fatHeader, fatMagic, openedIn, foundIn, bytesOf, startOf}
 use Rattle.fat.specs.declared.Opened.{Opened}
 use Rattle.fat.specs.declared.Opened.the-variants.{Count, Refused}
 use Rattle.fat.specs.declared.Part.{Part}
@@ -91,7 +91,7 @@ found-none s k i e = sym (found-refused s i e)
 -- An accepted member lies in the file, and its part is exactly its bytes.
 module _ (s : List ℕ) (i : ℕ) (m : Member) (e : foundIn s i ≡ found.At m) where
   pub found-within : m .offset + m .size ≤ length s
-  found-within = inside-is s (0, 0) e (found-inside s i)
+  found-within = inside-is s e (found-inside s i)
 
   bytes : bytesOf s (foundIn s i) ≡ take (m .size) (drop (m .offset) s)
   bytes = rw e

@@ -12,7 +12,8 @@ pub enum Opened {
     Refused(Refusal),
 }
 
-// What `found` says decides: a refused member has no bytes, and an accepted one may have none too.
+// A member and the part of the file that it occupies. `found` tells whether there is one: a refusal has no bytes, and a member may
+// have none.
 pub struct Part<'a> {
     pub found: Found,
     pub bytes: &'a [u8],
@@ -61,7 +62,7 @@ pub fn member_at(file: &[u8], index: usize) -> Found
     })
 }
 
-// The member with that index and the part of the file that it occupies.
+// The member with that index, and its bytes where they lie in the file.
 pub fn bytes_at<'a>(file: &'a [u8], index: usize) -> Part<'a>
     ensures { λ r. ⌜ (r .found ≡ foundIn (now (file .entry)) index) × (now (r .bytes) ≡ bytesOf (now (file .entry)) (foundIn (now (file .entry)) index)) × (r .bytes .ptr ≡ startOf (file .entry .ptr) (foundIn (now (file .entry)) index)) ⌝ }
 {
@@ -70,6 +71,7 @@ pub fn bytes_at<'a>(file: &'a [u8], index: usize) -> Part<'a>
     Part { found, bytes }
 }
 
+// The part of the file that a member occupies.
 fn slice(file: &[u8], found: Found) -> &[u8]
     requires { ⌜ Inside (now file) found ⌝ }
     ensures { λ r. ⌜ (now r ≡ bytesOf (now (file .entry)) found) × (r .ptr ≡ startOf (file .entry .ptr) found) ⌝ }
@@ -84,6 +86,7 @@ fn slice(file: &[u8], found: Found) -> &[u8]
     }
 }
 
+// How many members the header counts.
 fn header(file: &[u8]) -> Opened
     ensures { λ r. ⌜ r ≡ headerIn (now (file .entry)) ⌝ }
 {

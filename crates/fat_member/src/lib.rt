@@ -11,7 +11,7 @@ use cursor::NextWord;
 // The bytes that a member takes in the table.
 pub const SIZE: usize = 20;
 
-// A member of either form: the offset and the size have room for 64 bits.
+// The offset and the size have room for 64 bits, as the form of the header with wide members has them.
 pub struct Member {
     pub cputype: u32,
     // Without its top 8 bits, which are `caps`.

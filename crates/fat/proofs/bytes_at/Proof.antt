@@ -1,7 +1,7 @@
 -- `fat::bytes_at` meets its contract: a walk of its MIR, by hand. `member_at` and `slice` are called one after the other, and their results are put together. All that the proof knows of the two is that each meets its contract.
 -- A `&[u8]` is Copy, so what the file owns is had again after each call; what the found member owns are facts alone, and is made anew. In a local MIR erases the lifetime of a slice's type, so the part is shown to have the type at `erased`.
 -- Assumes nothing.
-use mathlib.Core.Path.{_≡_, sym, refl, ap, _∙_}
+use mathlib.Core.Path.{_≡_, refl, ap, _∙_}
 use Prim.Native.Nat.{ℕ, _<_, _^_}
 use mathlib.Core.List.{List, [], _∷_}
 use lib.ListN.{length}

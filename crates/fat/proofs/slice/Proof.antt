@@ -11,7 +11,7 @@ enum-known-found c = search needs
 
 add-end : tie.Need-add-end
 add-end c =
-    let h = inside-is _ (c .before .before .before .args .file .ptr) (c .before .found .given .1) (c .before .before .before .pre) in
+    let h = inside-is _ (c .before .found .given .1) (c .before .before .before .pre) in
     omega arith
 
 sub-result : tie.Need-sub-result
@@ -22,7 +22,7 @@ part-result-start c = search needs
 
 part-result-end : tie.Need-part-result-end
 part-result-end c =
-    let h = inside-is _ (c .before .before .before .args .file .ptr) (c .before .found .given .1) (c .before .before .before .pre) in
+    let h = inside-is _ (c .before .found .given .1) (c .before .before .before .pre) in
     omega arith
 
 enum-told : tie.Need-enum-told
