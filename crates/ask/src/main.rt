@@ -28,6 +28,10 @@ fn read_door(line: &[u8], r: Request, s: &[u8], out: &mut [u8; 65536], at: usize
     if ground.known {
         return ground;
     }
+    let fat = ask_fat::answer_read(word, r, s, out, at);
+    if fat.known {
+        return fat;
+    }
     ask_pe::answer_read(word, r, s, out, at)
 }
 

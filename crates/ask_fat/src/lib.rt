@@ -1,0 +1,52 @@
+// The requests of fat Mach-O files.
+use fat::Opened;
+use fat_member::Found;
+use fat_member::Member;
+use reply::Reply;
+use request::Request;
+
+pub fn answer_read(word: &[u8], r: Request, s: &[u8], out: &mut [u8; 65536], at: usize) -> Reply {
+    if text::same(word, b"fat") {
+        return reply::said(fat_count(r, s, out, at));
+    }
+    if text::same(word, b"fat_member") {
+        return reply::said(fat_member(r, s, out, at));
+    }
+    reply::unknown(at)
+}
+
+fn fat_count(r: Request, s: &[u8], out: &mut [u8; 65536], at: usize) -> usize {
+    if request::has(r, 0, true) {
+        return match fat::open(s) {
+            Opened::Count(n) => reply::one(out, at, n as u64),
+            Opened::Refused(k) => reply::refused(out, at, k),
+        };
+    }
+    reply::usage(out, at, r, b"fat BYTES")
+}
+
+fn fat_member(r: Request, s: &[u8], out: &mut [u8; 65536], at: usize) -> usize {
+    if request::has(r, 1, true) {
+        return match fat::member_at(s, request::place(r, 0)) {
+            Found::At(m) => put_member(out, at, m),
+            Found::Refused(k) => reply::refused(out, at, k),
+        };
+    }
+    reply::usage(out, at, r, b"fat_member INDEX BYTES")
+}
+
+fn put_member(out: &mut [u8; 65536], at: usize, m: Member) -> usize {
+    let mut end = reply::ok(out, at);
+    end = reply::number(out, end, m.cputype as u64);
+    end = reply::number(out, end, m.cpusubtype as u64);
+    end = reply::number(out, end, m.caps as u64);
+    end = reply::number(out, end, m.offset);
+    end = reply::number(out, end, m.size);
+    end = reply::number(out, end, m.align as u64);
+    if m.is_64 {
+        end = reply::number(out, end, 1);
+    } else {
+        end = reply::number(out, end, 0);
+    }
+    reply::end(out, end)
+}
