@@ -3,7 +3,7 @@ import struct
 
 from .common import around, hexed, noise
 
-NAME = 'fat'
+NAME = 'mach_fat'
 DOORS = ['fat', 'fat_member', 'fat_bytes']
 MAGIC = 0xCAFEBABE
 
