@@ -1,4 +1,4 @@
--- `fat::open` meets its contract. The loop's invariant: of the members, those from `left` on at `at` are answered as all of them are; and `at` does not wrap.
+-- `fat::open` meets its contract. The loop's invariant: the `left` members from `at` on are answered as all of them are, and `at` does not wrap.
 -- The measure is what is left.
 -- Assumes nothing.
 use native.Mathlib.Omega.{arith}
