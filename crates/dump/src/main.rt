@@ -1,30 +1,90 @@
 // Prints what the file that argument 1 names is. Argument 2, `--large`, says that the stack was raised to 260 MiB and more.
+use answer::Refusal;
+use fat::Opened;
+use fat_member::Found;
+use fat_member::Member;
 use fields::Half;
 use fields::Word;
 use libc::SEEK_END;
 use libc::SEEK_SET;
 
-// The kind that the first bytes say: the magic of a fat Mach-O file, or the signature of a DOS header.
-fn kind(s: &[u8]) -> u8 {
+// What is printed, by the first bytes: the magic of a fat Mach-O file, or the signature of a DOS header.
+fn put_file(s: &[u8], out: &mut [u8; 65536], at: usize) -> usize {
     if let Word::Value(magic) = fields::read_u32(s, 0, true) {
         if magic == 0xCAFEBABE {
-            return 1;
+            return put_fat(s, out, at);
         }
     }
     if let Half::Value(signature) = fields::read_u16(s, 0, false) {
         if signature == 0x5A4D {
-            return 2;
+            return text::put(out, at, b"DOS or PE, by its signature\n");
         }
     }
-    0
+    text::put(out, at, b"neither fat Mach-O nor PE, by its first bytes\n")
 }
 
-fn put_kind(out: &mut [u8; 65536], at: usize, k: u8) -> usize {
-    match k {
-        1 => text::put(out, at, b"fat Mach-O or Java class, by its magic\n"),
-        2 => text::put(out, at, b"DOS or PE, by its signature\n"),
-        _ => text::put(out, at, b"unknown, by its first bytes\n"),
+// A refusal, by its number and in words.
+fn put_refusal(out: &mut [u8; 65536], at: usize, k: Refusal) -> usize {
+    let row = answer::words(k.number);
+    let mut end = text::put(out, at, b"refused ");
+    end = text::put_decimal(out, end, k.number as u64);
+    end = text::put(out, end, b": ");
+    end = text::put_trimmed(out, end, &row);
+    text::put_byte(out, end, b'\n')
+}
+
+fn put_fat(s: &[u8], out: &mut [u8; 65536], at: usize) -> usize {
+    let end = text::put(out, at, b"fat Mach-O\n");
+    let count = match fat::open(s) {
+        Opened::Count(n) => n,
+        Opened::Refused(k) => return put_refusal(out, end, k),
+    };
+    let first = text::put(out, end, b"members ");
+    let second = text::put_decimal(out, first, count as u64);
+    let last = text::put_byte(out, second, b'\n');
+    put_members(s, count, out, last)
+}
+
+fn put_members(s: &[u8], count: u32, out: &mut [u8; 65536], at: usize) -> usize {
+    let mut end = at;
+    let mut i: u32 = 0;
+    while i < count {
+        match fat::member_at(s, i as usize) {
+            Found::At(m) => {
+                end = put_member(m, i, out, end);
+            }
+            Found::Refused(k) => {
+                end = put_refusal(out, end, k);
+            }
+        }
+        i += 1;
     }
+    end
+}
+
+fn put_member(m: Member, i: u32, out: &mut [u8; 65536], at: usize) -> usize {
+    let mut end = text::put(out, at, b"member ");
+    end = text::put_decimal(out, end, i as u64);
+    end = text::put(out, end, b": cputype 0x");
+    end = text::put_hex(out, end, m.cputype as u64, 8);
+    end = text::put(out, end, b" cpusubtype 0x");
+    end = text::put_hex(out, end, m.cpusubtype as u64, 6);
+    end = text::put(out, end, b" capabilities 0x");
+    end = text::put_hex(out, end, m.caps as u64, 2);
+    put_place(m, out, end)
+}
+
+fn put_place(m: Member, out: &mut [u8; 65536], at: usize) -> usize {
+    let mut end = text::put(out, at, b" offset ");
+    end = text::put_decimal(out, end, m.offset);
+    end = text::put(out, end, b" size ");
+    end = text::put_decimal(out, end, m.size);
+    end = text::put(out, end, b" align 2^");
+    end = text::put_decimal(out, end, m.align as u64);
+    if m.is_64 {
+        return text::put(out, end, b" 64-bit\n");
+    }
+    text::put_byte(out, end, b'\n')
 }
 
 // The work, on a slice: the same for every size of buffer.
@@ -34,7 +94,7 @@ fn report(s: &[u8]) {
     at = text::put(&mut out, at, b"bytes ");
     at = text::put_decimal(&mut out, at, s.len() as u64);
     at = text::put_byte(&mut out, at, b'\n');
-    at = put_kind(&mut out, at, kind(s));
+    at = put_file(s, &mut out, at);
     text::flush(&out, at);
 }
 

@@ -22,6 +22,18 @@ pub fn put(out: &mut [u8; 65536], at: usize, s: &[u8]) -> usize {
     end
 }
 
+// The same without the spaces at its end.
+pub fn put_trimmed(out: &mut [u8; 65536], at: usize, s: &[u8]) -> usize {
+    let mut n = s.len();
+    while n > 0 {
+        if s[n - 1] != b' ' {
+            return put(out, at, &s[0..n]);
+        }
+        n -= 1;
+    }
+    at
+}
+
 pub fn put_decimal(out: &mut [u8; 65536], at: usize, n: u64) -> usize {
     let mut text = [0u8; 20];
     let k = io::decimal(n, &mut text);
