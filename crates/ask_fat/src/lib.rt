@@ -12,6 +12,9 @@ pub fn answer_read(word: &[u8], r: Request, s: &[u8], out: &mut [u8; 65536], at:
     if text::same(word, b"fat_member") {
         return reply::said(fat_member(r, s, out, at));
     }
+    if text::same(word, b"fat_bytes") {
+        return reply::said(fat_bytes(r, s, out, at));
+    }
     reply::unknown(at)
 }
 
@@ -33,6 +36,30 @@ fn fat_member(r: Request, s: &[u8], out: &mut [u8; 65536], at: usize) -> usize {
         };
     }
     reply::usage(out, at, r, b"fat_member INDEX BYTES")
+}
+
+fn fat_bytes(r: Request, s: &[u8], out: &mut [u8; 65536], at: usize) -> usize {
+    if request::has(r, 1, true) {
+        return put_part(s, request::place(r, 0), out, at);
+    }
+    reply::usage(out, at, r, b"fat_bytes INDEX BYTES")
+}
+
+// Takes the part apart at once, so that no other function here holds a struct with a reference.
+fn put_part(s: &[u8], index: usize, out: &mut [u8; 65536], at: usize) -> usize {
+    let p = fat::bytes_at(s, index);
+    say_part(p.found, p.bytes, out, at)
+}
+
+fn say_part(found: Found, bytes: &[u8], out: &mut [u8; 65536], at: usize) -> usize {
+    match found {
+        Found::At(_) => {
+            let first = reply::ok(out, at);
+            let last = reply::bytes(out, first, bytes);
+            reply::end(out, last)
+        }
+        Found::Refused(k) => reply::refused(out, at, k),
+    }
 }
 
 fn put_member(out: &mut [u8; 65536], at: usize, m: Member) -> usize {
