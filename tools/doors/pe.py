@@ -4,7 +4,7 @@ import struct
 from .common import around, hexed, noise
 
 NAME = 'pe'
-DOORS = ['section', 'find_offset']
+DOORS = ['dos', 'dos_put', 'coff', 'optional', 'pe', 'section', 'find_offset']
 
 
 def taken(line):
@@ -60,17 +60,120 @@ def section(data, table, count, index):
     return f'ok {hexed(fields[0])} ' + ' '.join(map(str, fields[1:])), [fields]
 
 
+def field(data, at, form):
+    return struct.unpack_from('<' + form, data, at)[0] if at + struct.calcsize('<' + form) <= len(data) else None
+
+
+def dos(data, at):
+    signature = field(data, at, 'H')
+    if signature is None:
+        return 'no 1', []
+    if signature != 0x5A4D:
+        return 'no 2', []
+    if at + 64 > len(data):
+        return 'no 1', []
+    return 'ok ' + ' '.join(map(str, struct.unpack_from('<30HI', data, at))), []
+
+
+def dos_put(data, signature, at, from_):
+    found = dos(data, from_)[0]
+    if found.startswith('no'):
+        return f'{found} {hexed(data)}', []
+    if signature != 0x5A4D:
+        return f'no 2 {hexed(data)}', []
+    if at + 64 > len(data):
+        return f'no 13 {hexed(data)}', []
+    return f'ok {hexed(data[:at] + data[from_:from_ + 64] + data[at + 64:])}', []
+
+
+def coff(data, at):
+    if at + 4 > len(data):
+        return 'no 1', []
+    if field(data, at + 2, 'H') > 96:
+        return 'no 3', []
+    if at + 20 > len(data):
+        return 'no 1', []
+    return 'ok ' + ' '.join(map(str, struct.unpack_from('<HHIIIHH', data, at))), []
+
+
+def optional(data, at, size):
+    magic = field(data, at, 'H')
+    if magic is None:
+        return 'no 1', []
+    if magic not in (0x10B, 0x20B):
+        return 'no 2', []
+    if size < 2:
+        return 'no 4', []
+    count_at = 92 if magic == 0x10B else 108
+    numbers = [magic]
+    offsets = [36, count_at]
+    while offsets:
+        offset = offsets.pop(0)
+        number = field(data, at + offset, 'I')
+        if number is None:
+            return 'no 1', []
+        if offset + 4 > size:
+            return 'no 4', []
+        numbers.append(number)
+        if offset == count_at and number > 3:
+            offsets = [count_at + 28, count_at + 32]
+    numbers += [0, 0][len(numbers) - 3:]
+    return 'ok ' + ' '.join(map(str, numbers)), []
+
+
+def pe(data):
+    found = dos(data, 0)[0]
+    if found.startswith('no'):
+        return found, []
+    pointer = field(data, 60, 'I')
+    signature = field(data, pointer, 'I')
+    if signature is None:
+        return 'no 1', []
+    if signature != 0x4550:
+        return 'no 2', []
+    found = coff(data, pointer + 4)[0]
+    if found.startswith('no'):
+        return found, []
+    machine, count, _, _, _, size, _ = struct.unpack_from('<HHIIIHH', data, pointer + 4)
+    found = optional(data, pointer + 24, size)[0]
+    if found.startswith('no'):
+        return found, []
+    rows = [row(data, pointer + 24 + size + 40 * i) for i in range(count)]
+    if None in rows:
+        return 'no 1', []
+    return f'ok {pointer} {machine} {count} {pointer + 24} {size} {found[3:]} {pointer + 24 + size}', rows
+
+
 def answered(line):
     door, numbers, data = taken(line)
-    return {'section': section, 'find_offset': mapped}[door](data, *numbers)
+    return globals()[{'find_offset': 'mapped'}.get(door, door)](data, *numbers)
 
 
 def expected(line):
     return answered(line)[0]
 
 
+# Where goblin answers otherwise.
+
+def placed(line):
+    """Where the COFF header and the optional header stand, and the stated optional size; None where there is none."""
+    door, numbers, data = taken(line)
+    if door == 'coff':
+        return numbers[0], None, None
+    if door == 'optional':
+        return None, numbers[0], numbers[1]
+    pointer = field(data, 60, 'I') if door == 'pe' else None
+    if pointer is None:
+        return None, None, None
+    return pointer + 4, pointer + 24, field(data, pointer + 20, 'H')
+
+
 def over_limit(line):
-    return taken(line)[1][1] > 96
+    door, numbers, data = taken(line)
+    if door in ('section', 'find_offset'):
+        return numbers[1] > 96
+    where = placed(line)[0]
+    return where is not None and (field(data, where + 2, 'H') or 0) > 96
 
 
 def slash_name(line):
@@ -78,9 +181,38 @@ def slash_name(line):
     return any(fields[0][:1] == b'/' for fields in answered(line)[1])
 
 
+def partial(line):
+    door, numbers, data = taken(line)
+    return door == 'dos_put' and numbers[1] + 2 <= len(data) < numbers[1] + 64
+
+
+def other_signature(line):
+    door, numbers, _ = taken(line)
+    return door == 'dos_put' and numbers[0] != 0x5A4D
+
+
+def outside_size(line):
+    return taken(line)[0] in ('optional', 'pe') and expected(line) == 'no 4'
+
+
+def all_directories(line):
+    """goblin needs every byte of the optional header up to its last stated directory, and at most 16 directories."""
+    _, _, data = taken(line)
+    _, at, _ = placed(line)
+    magic = None if at is None else field(data, at, 'H')
+    if magic not in (0x10B, 0x20B):
+        return False
+    count = field(data, at + (92 if magic == 0x10B else 108), 'I')
+    return count is not None and (count > 16 or at + (96 if magic == 0x10B else 112) + 8 * count > len(data))
+
+
 RULES = [
+    ('D1', partial, expected),
     ('D6', over_limit, expected),
     ('D7', slash_name, expected),
+    ('D12', other_signature, expected),
+    ('D13', outside_size, expected),
+    ('D14', all_directories, expected),
 ]
 
 
@@ -118,10 +250,78 @@ def exhaustive():
         yield f'find_offset {table} 2 512 4096 {hexed(two)}'
 
 
+def image(rng, magic, directories, rows, size=None, pointer=64):
+    """A small image: DOS header, PE signature, COFF header, optional header with so many directories, rows."""
+    body = bytearray(noise(rng, 112 if magic == 0x20B else 96))
+    struct.pack_into('<H', body, 0, magic)
+    struct.pack_into('<I', body, 36, rng.choice([0x200, 0x1000, 1, 3]))
+    struct.pack_into('<I', body, len(body) - 4, directories)
+    body += noise(rng, 8 * min(directories, 20))
+    if rng.random() < 0.3 and directories > 3:
+        struct.pack_into('<II', body, (112 if magic == 0x20B else 96) + 24, 0, 0)
+    size = len(body) if size is None else size
+    coff_ = struct.pack('<HHIIIHH', rng.choice([0x8664, 0x14C, 0xAA64]), len(rows), 1, 2, 3, size, 4)
+    front = bytearray(noise(rng, 64))
+    struct.pack_into('<H', front, 0, 0x5A4D)
+    struct.pack_into('<I', front, 60, pointer)
+    data = bytes(front) + noise(rng, max(pointer - 64, 0)) + b'PE\0\0' + coff_ + bytes(body[:size]) + bytes(max(size - len(body), 0))
+    return data + b''.join(rows)
+
+
+def whole_images(rng):
+    """Images of both forms cut at every length, and with every stated size around the needed ones."""
+    for magic in (0x10B, 0x20B):
+        for directories in (0, 3, 4, 16, 17):
+            rows = [some_row(rng).replace(b'/', b'.') for _ in range(2)]
+            data = image(rng, magic, directories, rows)
+            for n in range(len(data) + 1):
+                if n > 150 or n % 7 == 0 or n < 4:
+                    yield f'pe {hexed(data[:n])}'
+            for size in list(range(0, 42)) + list(range(90, 150)):
+                yield f'pe {hexed(image(rng, magic, directories, rows, size) + bytes(100))}'
+                yield f'optional 88 {size} {hexed(data)}'
+    for count in (0, 1, 95, 96, 97, 98):
+        yield f'pe {hexed(image(rng, 0x20B, 16, [bytes(40)] * count))}'
+    for pointer in (64, 65, 128, 200):
+        yield f'pe {hexed(image(rng, 0x20B, 16, [bytes(40)], None, pointer))}'
+    low = bytearray(image(rng, 0x20B, 16, [bytes(40)]))
+    low[4:4 + 300] = low[64:364]
+    struct.pack_into('<I', low, 60, 4)
+    yield f'pe {hexed(low)}'
+    header = hexed(struct.pack('<30HI', 0x5A4D, *range(1, 30), 0x80) + bytes(70))
+    for signature in (0x5A4D, 0x4D5A, 0, 0xFFFF):
+        for at in list(range(0, 8)) + [69, 70, 71, 72, 134, 2 ** 64 - 1]:
+            yield f'dos_put {signature} {at} 0 {header}'
+    for n in range(66):
+        yield f'dos 0 {header[:1 + 2 * n]}'
+        yield f'coff 0 {header[:1 + 2 * n]}'
+
+
+def some_header(rng):
+    rows = [some_row(rng) for _ in range(rng.choice([0, 1, 2, 3]))]
+    data = bytearray(image(rng, rng.choice([0x10B, 0x20B, 0x20B]), rng.choice([0, 2, 3, 4, 5, 15, 16, 16, 16, 17]), rows))
+    for _ in range(rng.choice([0, 0, 1, 2])):
+        data[rng.choice([0, 1, 60, 61, 64, 65, 68, 69, 70, 84, 85, 88, 89, 124, rng.randrange(len(data))])] = rng.getrandbits(8)
+    if rng.random() < 0.1:
+        data = data[:rng.randrange(len(data) + 1)]
+    door = rng.choice(['pe', 'pe', 'pe', 'dos', 'coff', 'optional', 'dos_put'])
+    if door == 'pe':
+        return f'pe {hexed(data)}'
+    at = around(rng, {'dos': 0, 'coff': 68, 'optional': 88, 'dos_put': 0}[door], len(data)) if rng.random() < 0.3 else {'dos': 0, 'coff': 68, 'optional': 88, 'dos_put': 5}[door]
+    if door == 'optional':
+        return f'optional {at} {rng.choice([0, 2, 40, 96, 112, 128, 136, 144, 224, 240, 65535])} {hexed(data)}'
+    if door == 'dos_put':
+        return f'dos_put {rng.choice([0x5A4D, 0x5A4D, rng.getrandbits(16)])} {at} 0 {hexed(data[:130])}'
+    return f'{door} {at} {hexed(data[:140])}'
+
+
 def requests(rng, count):
-    made = list(exhaustive())
+    made = list(exhaustive()) + list(whole_images(rng))
     yield from made
     for _ in range(max(count - len(made), 0)):
+        if rng.random() < 0.5:
+            yield some_header(rng)
+            continue
         rows = [some_row(rng) for _ in range(rng.choice([0, 1, 1, 2, 3, 5]))]
         front = noise(rng, rng.choice([0, 0, 3]))
         data = front + b''.join(rows)

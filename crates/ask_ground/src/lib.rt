@@ -8,7 +8,6 @@ use fields::Byte;
 use fields::Half;
 use fields::Long;
 use fields::Word;
-use fields::Written;
 use reply::Reply;
 use request::Request;
 use runtime::Found;
@@ -210,22 +209,12 @@ fn words(r: Request, out: &mut [u8; 65536], at: usize) -> usize {
     reply::usage(out, at, r, b"words NUMBER, below 256")
 }
 
-// What a write answered, and the bytes as they are then.
-fn written(w: Written, s: &[u8], out: &mut [u8; 65536], at: usize) -> usize {
-    let first = match w {
-        Written::Done => reply::ok(out, at),
-        Written::Refused(k) => reply::refusal(out, at, k),
-    };
-    let last = reply::bytes(out, first, s);
-    reply::end(out, last)
-}
-
 fn put8(r: Request, s: &mut [u8], out: &mut [u8; 65536], at: usize) -> usize {
     let n = request::number(r, 1);
     if request::has(r, 2, true) {
         if n < 256 {
             let w = fields::write_u8(s, request::place(r, 0), n as u8);
-            return written(w, s, out, at);
+            return reply::written(w, s, out, at);
         }
     }
     reply::usage(out, at, r, b"put8 AT NUMBER BYTES, the number below 256")
@@ -236,7 +225,7 @@ fn put16(r: Request, s: &mut [u8], out: &mut [u8; 65536], at: usize) -> usize {
     if request::has(r, 3, true) {
         if n < 65536 {
             let w = fields::write_u16(s, request::place(r, 1), n as u16, big(r));
-            return written(w, s, out, at);
+            return reply::written(w, s, out, at);
         }
     }
     reply::usage(
@@ -252,7 +241,7 @@ fn put32(r: Request, s: &mut [u8], out: &mut [u8; 65536], at: usize) -> usize {
     if request::has(r, 3, true) {
         if n < 4294967296 {
             let w = fields::write_u32(s, request::place(r, 1), n as u32, big(r));
-            return written(w, s, out, at);
+            return reply::written(w, s, out, at);
         }
     }
     reply::usage(
@@ -267,7 +256,7 @@ fn put64(r: Request, s: &mut [u8], out: &mut [u8; 65536], at: usize) -> usize {
     let n = request::number(r, 2);
     if request::has(r, 3, true) {
         let w = fields::write_u64(s, request::place(r, 1), n, big(r));
-        return written(w, s, out, at);
+        return reply::written(w, s, out, at);
     }
     reply::usage(out, at, r, b"put64 ORDER AT NUMBER BYTES")
 }
@@ -286,7 +275,7 @@ fn runtime_put(r: Request, s: &mut [u8], out: &mut [u8; 65536], at: usize) -> us
                         unwind: u as u32,
                     };
                     let w = runtime::write(s, request::place(r, 0), record);
-                    return written(w, s, out, at);
+                    return reply::written(w, s, out, at);
                 }
             }
         }

@@ -1,5 +1,6 @@
 // Answers to request lines, as text (docs/ASK.md): `ok` or `no NUMBER`, then numbers and bytes, or `?` with what is wrong.
 use answer::Refusal;
+use fields::Written;
 use request::Request;
 
 // Whether a door of that name was there, and where the text ends.
@@ -42,6 +43,16 @@ pub fn refusal(out: &mut [u8; 65536], at: usize, k: Refusal) -> usize {
 
 pub fn refused(out: &mut [u8; 65536], at: usize, k: Refusal) -> usize {
     let last = refusal(out, at, k);
+    end(out, last)
+}
+
+// What a write answered, and the bytes as they are then.
+pub fn written(w: Written, s: &[u8], out: &mut [u8; 65536], at: usize) -> usize {
+    let first = match w {
+        Written::Done => ok(out, at),
+        Written::Refused(k) => refusal(out, at, k),
+    };
+    let last = bytes(out, first, s);
     end(out, last)
 }
 

@@ -1,9 +1,88 @@
 //! PE headers, sections and mapping, by the parts: `Header::parse` refuses for parts that are not ported.
+use crate::ground::wrote;
 use crate::request::{hex, Request};
 use crate::told;
+use goblin::pe::header::{CoffHeader, DosHeader};
+use goblin::pe::optional_header::OptionalHeader;
 use goblin::pe::options::ParseOptions;
 use goblin::pe::section_table::SectionTable;
 use goblin::pe::utils::find_offset;
+use scroll::{Pread, Pwrite, LE};
+
+/// The DOS header at `at`, alone: `DosHeader::parse` looks at the PE signature too, so one is put behind the header and pointed to.
+fn dos(bytes: &[u8], at: usize) -> Result<DosHeader, ()> {
+    let mut alone = bytes.get(at..).ok_or(())?.to_vec();
+    alone.truncate(64);
+    let mut pointer = 0;
+    if alone.len() == 64 {
+        pointer = alone.pread_with(60, LE).map_err(|_| ())?;
+        alone.pwrite_with(64u32, 60, LE).map_err(|_| ())?;
+        alone.extend(b"PE\0\0");
+    }
+    let mut header = DosHeader::parse(&alone).map_err(|_| ())?;
+    header.pe_pointer = pointer;
+    Ok(header)
+}
+
+fn dos_values(h: &DosHeader) -> Vec<String> {
+    let mut numbers = vec![
+        h.signature,
+        h.bytes_on_last_page,
+        h.pages_in_file,
+        h.relocations,
+        h.size_of_header_in_paragraphs,
+        h.minimum_extra_paragraphs_needed,
+        h.maximum_extra_paragraphs_needed,
+        h.initial_relative_ss,
+        h.initial_sp,
+        h.checksum,
+        h.initial_ip,
+        h.initial_relative_cs,
+        h.file_address_of_relocation_table,
+        h.overlay_number,
+    ];
+    numbers.extend(h.reserved);
+    numbers.extend([h.oem_id, h.oem_info]);
+    numbers.extend(h.reserved2);
+    let mut words: Vec<_> = numbers.iter().map(u16::to_string).collect();
+    words.push(h.pe_pointer.to_string());
+    words
+}
+
+fn optional_values(h: &OptionalHeader) -> Vec<String> {
+    let exceptions = h.data_directories.get_exception_table().map_or([0, 0], |d| [d.virtual_address, d.size]);
+    let w = &h.windows_fields;
+    let mut words = vec![h.standard_fields.magic.to_string()];
+    words.extend([w.file_alignment, w.number_of_rva_and_sizes, exceptions[0], exceptions[1]].iter().map(u32::to_string));
+    words
+}
+
+/// The headers of an image by their parts, in file order. `None` where there is no optional header.
+fn headers(bytes: &[u8]) -> Option<Result<Vec<String>, ()>> {
+    let parsed = DosHeader::parse(bytes).map_err(|_| ()).and_then(|dos| {
+        let at = dos.pe_pointer as usize + 4;
+        Ok((dos, bytes.pread_with::<CoffHeader>(at, LE).map_err(|_| ())?))
+    });
+    let (dos, coff) = match parsed {
+        Ok(pair) => pair,
+        Err(()) => return Some(Err(())),
+    };
+    if coff.size_of_optional_header == 0 {
+        return None;
+    }
+    let optional_offset = dos.pe_pointer as usize + 24;
+    let mut table = optional_offset + coff.size_of_optional_header as usize;
+    let start = table;
+    Some((|| {
+        let optional = bytes.pread_with::<OptionalHeader>(optional_offset, LE).map_err(|_| ())?;
+        coff.sections(bytes, &mut table).map_err(|_| ())?;
+        let mut words = vec![dos.pe_pointer.to_string(), coff.machine.to_string(), coff.number_of_sections.to_string()];
+        words.extend([optional_offset.to_string(), coff.size_of_optional_header.to_string()]);
+        words.extend(optional_values(&optional));
+        words.push(start.to_string());
+        Ok(words)
+    })())
+}
 
 /// Row `index` of the table at `table`.
 fn row(bytes: &[u8], table: usize, index: usize) -> Result<SectionTable, ()> {
@@ -41,6 +120,34 @@ fn mapped(bytes: &[u8], table: usize, count: usize, alignment: u32, address: usi
 
 pub fn answer(request: &Request) -> Option<String> {
     Some(match request.door.as_str() {
+        "dos" => {
+            let bytes = request.bytes_after(1)?;
+            told(dos(bytes, request.place(0)), |h| dos_values(&h))
+        }
+        "dos_put" => {
+            let bytes = request.bytes_after(3)?;
+            let Ok(mut header) = dos(bytes, request.place(2)) else { return Some(format!("no {}", hex(bytes))) };
+            header.signature = request.number(0) as u16;
+            wrote(bytes, |out| out.pwrite_with(header, request.place(1), LE))
+        }
+        "coff" => {
+            let bytes = request.bytes_after(1)?;
+            told(bytes.pread_with::<CoffHeader>(request.place(0), LE), |h| {
+                let words = [h.time_date_stamp, h.pointer_to_symbol_table, h.number_of_symbol_table];
+                let mut values = vec![h.machine.to_string(), h.number_of_sections.to_string()];
+                values.extend(words.iter().map(u32::to_string));
+                values.extend([h.size_of_optional_header.to_string(), h.characteristics.to_string()]);
+                values
+            })
+        }
+        "optional" => {
+            let bytes = request.bytes_after(2)?;
+            told(bytes.pread_with::<OptionalHeader>(request.place(0), LE), |h| optional_values(&h))
+        }
+        "pe" => {
+            let bytes = request.bytes_after(0)?;
+            told(headers(bytes)?, |words| words)
+        }
         "section" => {
             let bytes = request.bytes_after(3)?;
             if request.place(2) >= request.place(1) {
