@@ -250,25 +250,43 @@ fn shift(buf: &mut [u8; 65536], from: usize, end: usize) -> usize {
     i
 }
 
-// What is left of the buffer behind the first newline; all of it is passed over where there is none.
-fn pass_over(buf: &mut [u8; 65536], end: usize, t: Turn) -> Turn {
+// How many bytes of a buffer are left behind its first newline, moved to its start; none, and not found, where it has no newline.
+struct Left {
+    kept: usize,
+    found: bool,
+}
+
+fn pass_over(buf: &mut [u8; 65536], end: usize) -> Left {
     let e = line_end(request::first_of(buf, end), 0);
     if e < end {
         if e < 65536 {
-            return Turn {
+            return Left {
                 kept: shift(buf, e + 1, end),
-                at: 0,
-                file: t.file,
-                skip: false,
-                on: true,
+                found: true,
             };
         }
     }
-    Turn {
+    Left {
         kept: 0,
-        at: 0,
-        file: t.file,
-        skip: true,
+        found: false,
+    }
+}
+
+// Answers each whole line of the first `end` bytes, and keeps the rest.
+fn answer_turn(
+    buf: &mut [u8; 65536],
+    end: usize,
+    body: &mut [u8; 32768],
+    room: &mut [u8],
+    file: usize,
+    out: &mut [u8; 65536],
+) -> Turn {
+    let d = answer_all(request::first_of(buf, end), body, room, file, out);
+    Turn {
+        kept: shift(buf, d.used, end),
+        at: d.at,
+        file: d.file,
+        skip: false,
         on: true,
     }
 }
@@ -303,16 +321,19 @@ fn one_turn(
         };
     }
     if t.skip {
-        return pass_over(buf, end, t);
+        let left = pass_over(buf, end);
+        if left.found {
+            return answer_turn(buf, left.kept, body, room, t.file, out);
+        }
+        return Turn {
+            kept: 0,
+            at: 0,
+            file: t.file,
+            skip: true,
+            on: true,
+        };
     }
-    let d = answer_all(request::first_of(buf, end), body, room, t.file, out);
-    Turn {
-        kept: shift(buf, d.used, end),
-        at: d.at,
-        file: d.file,
-        skip: false,
-        on: true,
-    }
+    answer_turn(buf, end, body, room, t.file, out)
 }
 
 // Answers a last line that no newline ends.
