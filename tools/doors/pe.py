@@ -3,7 +3,7 @@ import struct
 
 from .common import around, hexed, noise
 
-NAME = 'pe'
+NAME = 'image'
 DOORS = ['dos', 'dos_put', 'coff', 'optional', 'pe', 'section', 'find_offset']
 
 

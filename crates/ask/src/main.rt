@@ -32,7 +32,11 @@ fn read_door(line: &[u8], r: Request, s: &[u8], out: &mut [u8; 65536], at: usize
     if fat.known {
         return fat;
     }
-    ask_pe::answer_read(word, r, s, out, at)
+    let pe = ask_pe::answer_read(word, r, s, out, at);
+    if pe.known {
+        return pe;
+    }
+    ask_header::answer_read(word, r, s, out, at)
 }
 
 // The doors that write into bytes of the request.
@@ -44,7 +48,11 @@ fn write_door(
     at: usize,
 ) -> reply::Reply {
     let word = request::door(line, r);
-    ask_ground::answer_write(word, r, s, out, at)
+    let ground = ask_ground::answer_write(word, r, s, out, at);
+    if ground.known {
+        return ground;
+    }
+    ask_header::answer_write(word, r, s, out, at)
 }
 
 fn answer(

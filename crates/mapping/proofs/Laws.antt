@@ -13,11 +13,11 @@ use Rattle.answer.specs.Answer.{refuse, limit, noSection}
 use Rattle.answer.specs.Test.{pick, fileLimit}
 use Rattle.answer.specs.declared.Refusal.{Refusal}
 use Rattle.answer.proofs.Laws.{must-on, must-off}
-use Rattle.section.specs.Section.{rowAt, sectionLimit}
+use Rattle.section.specs.Section.{rowAt, onRow, sectionLimit}
 use Rattle.section.specs.declared.SectionHeader.{SectionHeader}
 use Rattle.section.specs.declared.Found.{Found}
 use Rattle.section.specs.declared.Found.the-variants as found
-use Rattle.mapping.specs.Mapping.{down, up, powerBelow, powerOfTwo, stored, readableSize, holds, offsetIn, onRow, firstOf, offsetOf}
+use Rattle.mapping.specs.Mapping.{down, up, powerBelow, powerOfTwo, stored, readableSize, holds, offsetIn, firstOf, offsetOf}
 use Rattle.mapping.specs.declared.Mapped.{Mapped}
 use Rattle.mapping.specs.declared.Mapped.the-variants.{At, Refused}
 

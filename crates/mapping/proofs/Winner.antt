@@ -10,11 +10,11 @@ use lib.ListN.{length}
 use Rattle.answer.specs.Answer.{refuse, noSection}
 use Rattle.answer.specs.Test.{pick, must, fileLimit}
 use Rattle.answer.specs.declared.Refusal.{Refusal}
-use Rattle.section.specs.Section.{rowAt, sectionLimit}
+use Rattle.section.specs.Section.{rowAt, onRow, sectionLimit}
 use Rattle.section.specs.declared.SectionHeader.{SectionHeader}
 use Rattle.section.specs.declared.Found.{Found}
 use Rattle.section.specs.declared.Found.the-variants as found
-use Rattle.mapping.specs.Mapping.{powerOfTwo, holds, offsetIn, onRow, firstOf, offsetOf}
+use Rattle.mapping.specs.Mapping.{powerOfTwo, holds, offsetIn, firstOf, offsetOf}
 use Rattle.mapping.specs.declared.Mapped.{Mapped}
 use Rattle.mapping.specs.declared.Mapped.the-variants.{At, Refused}
 use Rattle.mapping.proofs.Laws.{first-holds, first-on, first-none, offset-unaligned, offset-first}

@@ -7,11 +7,8 @@ use mathlib.Core.Bool.{Bool, true, false}
 use lib.Dec.{leb, ltb, eqb}
 use Rattle.answer.specs.Answer.{refuse, limit, noSection}
 use Rattle.answer.specs.Test.{pick, must, inLimit}
-use Rattle.answer.specs.declared.Refusal.{Refusal}
-use Rattle.section.specs.Section.{rowAt, sectionLimit}
+use Rattle.section.specs.Section.{rowAt, onRow, sectionLimit}
 use Rattle.section.specs.declared.SectionHeader.{SectionHeader}
-use Rattle.section.specs.declared.Found.{Found}
-use Rattle.section.specs.declared.Found.the-variants as found
 use Rattle.mapping.specs.declared.Mapped.{Mapped}
 use Rattle.mapping.specs.declared.Mapped.the-variants.{At, Refused}
 
@@ -57,10 +54,6 @@ holds alignment h address =
 -- the file offset of an address that the section holds
 abbrev pub offsetIn : SectionHeader → ℕ → ℕ
 offsetIn h address = h .«pointer_to_raw_data» + (address - h .«virtual_address»)
-
-abbrev pub onRow : {A : Type 0} → Found → (Refusal → A) → (SectionHeader → A) → A
-onRow (found.At h) refused on = on h
-onRow (found.Refused k) refused on = refused k
 
 -- "The first section in table order that holds the address wins.": the offset that the first of `n` rows from `at` that holds the
 -- address gives it; a row that is looked at and not whole is 1; none is 5

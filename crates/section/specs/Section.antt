@@ -9,6 +9,7 @@ use lib.ListN.{getD}
 use lib.Dec.{leb, ltb}
 use Rattle.answer.specs.Answer.{cut, short, limit, notFound}
 use Rattle.answer.specs.Test.{must, inLimit}
+use Rattle.answer.specs.declared.Refusal.{Refusal}
 use Rattle.layout.specs.Layout.{Field, field, widths, place, readBy}
 use Rattle.section.specs.declared.SectionHeader.{SectionHeader}
 use Rattle.section.specs.declared.Found.{Found}
@@ -69,6 +70,11 @@ numbersOf r =
 -- what reading the row at `at` answers: the row, or 1 at the first field that is not whole
 unfoldable pub rowAt : List ℕ → ℕ → Found
 rowAt s at = readBy (λ ns. At (rowOf ns)) (λ end. Refused (cut end)) false sectionHeader s at
+
+-- what goes on from a row that is read, or refuses as it does
+abbrev pub onRow : {A : Type 0} → Found → (Refusal → A) → (SectionHeader → A) → A
+onRow (At h) refused on = on h
+onRow (Refused k) refused on = refused k
 
 -- "Sections: 96."
 abbrev pub sectionLimit : ℕ

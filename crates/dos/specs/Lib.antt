@@ -1,0 +1,3 @@
+-- `Dos` is the header, `Answers` what each answer stands for.
+pub mod Dos
+pub mod Answers

@@ -1,0 +1,2 @@
+-- `Laws` has what proofs cite.
+pub mod Laws

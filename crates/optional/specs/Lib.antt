@@ -1,0 +1,3 @@
+-- `Optional` has the needed fields of the header, `Answers` what each answer stands for.
+pub mod Optional
+pub mod Answers
