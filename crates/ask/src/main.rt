@@ -36,7 +36,11 @@ fn read_door(line: &[u8], r: Request, s: &[u8], out: &mut [u8; 65536], at: usize
     if pe.known {
         return pe;
     }
-    ask_header::answer_read(word, r, s, out, at)
+    let header = ask_header::answer_read(word, r, s, out, at);
+    if header.known {
+        return header;
+    }
+    ask_versions::answer_read(word, r, s, out, at)
 }
 
 // The doors that write into bytes of the request.

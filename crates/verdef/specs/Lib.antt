@@ -1,0 +1,2 @@
+-- `Verdef` is the section of version definitions.
+pub mod Verdef

@@ -1,0 +1,46 @@
+-- What is proved of the section of version needs, for every input. `version_list` has the theorems on lists.
+-- Assumes nothing.
+use mathlib.Core.Path.{_≡_}
+use mathlib.Core.List.{List, [], _∷_}
+use mathlib.Core.Bool.{Bool, true}
+use Prim.Native.Nat.{ℕ, _+_, _≤_, _<_}
+use lib.ListN.{length, getD, drop}
+use lib.Seq.{getD-drop}
+use borrow.Author.Tests.{ltb-true}
+use Rattle.answer.specs.Answer.{refuse, limit}
+use Rattle.answer.specs.Test.{fileLimit}
+use Rattle.answer.proofs.Unique.{same-both}
+use Rattle.layout.specs.Layout.{numbersAt}
+use Rattle.version_section.specs.declared.Counted.{Counted}
+use Rattle.version_section.specs.declared.Counted.the-variants.{Refused}
+use Rattle.version_record.specs.Record.{layout, the, auxInside}
+use Rattle.version_record.specs.declared.Kind.the-variants.{Verneed}
+use Rattle.version_list.specs.List.{rowAt, walk}
+use Rattle.version_list.proofs.Theorems.{Each, each-so, auxiliaries-inside, first-too-many}
+use Rattle.verneed.specs.Verneed.{needsIn, needsOut, auxiliariesIn, auxiliariesOut}
+
+-- The row of a need has its place and then its fields by name.
+pub need-row : (big : Bool) (s : List ℕ) (at : ℕ) (ns : List ℕ) → ns ≡ numbersAt big (layout Verneed) s at → rowAt Verneed big s at ≡ at ∷ the Verneed "vn_version" ns ∷ the Verneed "vn_cnt" ns ∷ the Verneed "vn_file" ns ∷ the Verneed "vn_aux" ns ∷ the Verneed "vn_next" ns ∷ []
+unfolding numbersAt
+need-row big s at ns e = rw e
+
+column : (len : ℕ) (r : List ℕ) → auxInside Verneed len (getD r 0 0) (drop 1 r) ≡ true → getD r 0 0 + getD r 4 0 < len
+unfolding auxInside
+column len r h = rw (getD-drop 1 r 3 0) at (ltb-true (getD r 0 0 + getD (drop 1 r) 3 0) len h)
+
+-- The place of each listed need and its vn_aux, of which its auxiliaries are asked for, come to a place in the section.
+pub auxiliaries-start-inside : (big : Bool) (s : List ℕ) (stated : ℕ) → Each (λ r. getD r 0 0 + getD r 4 0 < length s) (walk Verneed big s stated 0 .rows)
+auxiliaries-start-inside big s stated =
+    each-so (λ r. auxInside Verneed (length s) (getD r 0 0) (drop 1 r) ≡ true) (λ r. getD r 0 0 + getD r 4 0 < length s) (λ r h. column (length s) r h) (walk Verneed big s stated 0 .rows) (auxiliaries-inside Verneed big s stated 0)
+
+-- 65,536 needs stated is 3.
+pub too-many : (big : Bool) (file : List ℕ) (start len : ℕ) (o : List ℕ) → length file ≤ fileLimit → Refused (refuse limit) ≡ needsIn big file start len 65536 o
+unfolding needsIn
+too-many big file start len o h = first-too-many Verneed big file start len 0 o h
+
+-- Two answers that meet a promise of this crate are equal, and so are the lists that they leave.
+pub needs-unique : (file : List ℕ) (start len stated : ℕ) (big : Bool) (o : List ℕ) {r q : Counted} {l m : List ℕ} → (r ≡ needsIn big file start len stated o) × (l ≡ needsOut big file start len stated o) → (q ≡ needsIn big file start len stated o) × (m ≡ needsOut big file start len stated o) → (r ≡ q) × (l ≡ m)
+needs-unique file start len stated big o = same-both
+
+pub auxiliaries-unique : (file : List ℕ) (start len place aux cnt : ℕ) (big : Bool) (o : List ℕ) {r q : Counted} {l m : List ℕ} → (r ≡ auxiliariesIn big file start len place aux cnt o) × (l ≡ auxiliariesOut big file start len place aux cnt o) → (q ≡ auxiliariesIn big file start len place aux cnt o) × (m ≡ auxiliariesOut big file start len place aux cnt o) → (r ≡ q) × (l ≡ m)
+auxiliaries-unique file start len place aux cnt big o = same-both

@@ -1,0 +1,2 @@
+-- `Verneed` is the section of version needs.
+pub mod Verneed

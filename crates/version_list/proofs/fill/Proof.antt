@@ -1,0 +1,86 @@
+-- `version_list::fill` meets its contract. The invariant of its loop: the rows that are left, written from the base on, make of the list what it shall be in the end.
+-- Assumes nothing.
+use native.Mathlib.Omega.{arith}
+use borrow.Author.Needs.{needs}
+use mathlib.Core.Path.{_≡_, refl, _∙_}
+use Prim.Native.Nat.{suc, _+_, _*_, _≤_}
+use lib.ListN.{length}
+use Rattle.fields.specs.Field.{put}
+use Rattle.version_record.specs.Record.{layout}
+use Rattle.version_record.proofs.Laws.{sized}
+use Rattle.version_list.specs.List.{walk, flat}
+use Rattle.version_list.proofs.Laws.{more, first-of, rest-put, all-put}
+use Rattle.version_list.proofs.fill.Statement.{statement}
+use Rattle.version_list.proofs.fill.Tie as tie
+
+abbrev Inv-loop : tie.InvT-loop
+Inv-loop section entries at big kind out₀ columns left₀ place₀ base₀ out left place base =
+    (base + left * suc (length (layout kind)) ≤ length out)
+    × (length (walk kind big section left place .rows) ≡ left)
+    × (put out₀ 0 (flat (walk kind big section entries at .rows)) ≡ put out base (flat (walk kind big section left place .rows)))
+    × (length out ≡ length out₀)
+
+abbrev μ-loop : tie.MeasureT-loop
+μ-loop section entries at big kind out₀ columns left₀ place₀ base₀ out left place base = left
+
+fields-of-requires : tie.Need-fields-of-requires Inv-loop μ-loop
+fields-of-requires c κs = search needs
+
+add-columns : tie.Need-add-columns Inv-loop μ-loop
+add-columns c = omega (arith, c .fields-of .ensures, sized (c .before .before .before .args .kind))
+
+loop-holds : tie.Need-loop-holds Inv-loop μ-loop
+loop-holds c = (omega (arith, c .before .before .before .pre), c .before .before .before .pre .1, refl, refl)
+
+put-row-requires : tie.Need-put-row-requires Inv-loop μ-loop
+put-row-requires c κs =
+    let f = first-of (c .before .before .before .before .before .before .args .kind) (c .before .before .before .before .before .before .args .big) (c .before .before .before .before .before .before .args .section .now) (c .before .before .loop .left) (c .before .before .loop .place) (c .before .loop-test .taken) (c .before .before .loop .inv .1) in
+    let m = more (c .before .before .loop .left) (suc (length (layout (c .before .before .before .before .before .before .args .kind)))) (c .before .loop-test .taken) in
+    (c .before .before .before .before .before .before .pre .0, f .there, omega arith)
+
+place-after-requires : tie.Need-place-after-requires Inv-loop μ-loop
+place-after-requires c κs = search needs
+
+add-base : tie.Need-add-base Inv-loop μ-loop
+add-base c =
+    let f = first-of (c .before .before .before .before .before .before .before .before .before .before .args .kind) (c .before .before .before .before .before .before .before .before .before .before .args .big) (c .before .before .before .before .before .before .before .before .before .before .args .section .now) (c .before .before .before .before .before .before .loop .left) (c .before .before .before .before .before .before .loop .place) (c .before .before .before .before .before .loop-test .taken) (c .before .before .before .before .before .before .loop .inv .1) in
+    let m = more (c .before .before .before .before .before .before .loop .left) (suc (length (layout (c .before .before .before .before .before .before .before .before .before .before .args .kind)))) (c .before .before .before .before .before .loop-test .taken) in
+    omega (arith, c .before .before .before .before .before .before .before .fields-of .ensures)
+
+sub-left : tie.Need-sub-left Inv-loop μ-loop
+sub-left c = omega arith
+
+loop-less : tie.Need-loop-less Inv-loop μ-loop
+loop-less c = omega arith
+
+loop-again : tie.Need-loop-again Inv-loop μ-loop
+loop-again c =
+    let f = first-of (c .before .before .before .before .before .before .before .before .before .before .args .kind) (c .before .before .before .before .before .before .before .before .before .before .args .big) (c .before .before .before .before .before .before .before .before .before .before .args .section .now) (c .before .before .before .before .before .before .loop .left) (c .before .before .before .before .before .before .loop .place) (c .before .before .before .before .before .loop-test .taken) (c .before .before .before .before .before .before .loop .inv .1) in
+    let m = more (c .before .before .before .before .before .before .loop .left) (suc (length (layout (c .before .before .before .before .before .before .before .before .before .before .args .kind)))) (c .before .before .before .before .before .loop-test .taken) in
+    let r = rest-put (c .before .before .before .before .before .before .before .before .before .before .args .kind) (c .before .before .before .before .before .before .before .before .before .before .args .big) (c .before .before .before .before .before .before .before .before .before .before .args .section .now) (c .before .before .before .before .before .before .loop .left) (c .before .before .before .before .before .before .loop .place) _ (c .before .before .before .before .before .before .loop .out) _ (c .before .before .before .before .before .before .loop .base) f (c .before .before .before .before .before .before .loop .inv .2) (c .before .before .before .put-row .ensures) (c .before .before .before .before .before .before .loop .inv .0) (c .before .before .before .before .before .loop-test .taken) in
+    let e : c .before .before .before .before .before .before .before .fields-of .result + 1 ≡ (suc (length (layout (c .before .before .before .before .before .before .before .before .before .before .args .kind)))) = omega (arith, c .before .before .before .before .before .before .before .fields-of .ensures) in
+    (omega (arith, r .1), rw (c .place-after .ensures) (f .rest), rw (e, c .place-after .ensures) (r .0), r .1 ∙ c .before .before .before .before .before .before .loop .inv .3)
+
+same-length : tie.Need-same-length Inv-loop μ-loop
+same-length c = c .before .loop .inv .3
+
+returns : tie.Need-returns Inv-loop μ-loop
+returns c = all-put (c .before .before .before .before .before .args .kind) (c .before .before .before .before .before .args .big) (c .before .before .before .before .before .args .section .now) (c .before .loop .left) (c .before .loop .place) _ _ (c .before .loop .base) (c .loop-test .left) (omega (arith, c .before .loop .inv .0)) (c .before .loop .inv .2)
+
+pub fill-spec : {M : Type 1} → statement M
+fill-spec =
+    tie.close
+    (tie.spec
+    Inv-loop
+    μ-loop
+    fields-of-requires
+    add-columns
+    loop-holds
+    put-row-requires
+    place-after-requires
+    add-base
+    sub-left
+    loop-less
+    loop-again
+    same-length
+    returns)

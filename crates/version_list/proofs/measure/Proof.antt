@@ -1,0 +1,93 @@
+-- `version_list::measure` meets its contract. The invariant of its loop: the entries passed and those of the list that is left are those of the whole list, and the whole list ends as the one that is left does.
+-- Assumes nothing.
+use native.Mathlib.Omega.{arith}
+use borrow.Author.Needs.{needs}
+use mathlib.Core.Path.{_≡_, refl, sym, _∙_}
+use Prim.Native.Nat.{_+_}
+use lib.ListN.{length}
+use Rattle.version_list.specs.List.{walk}
+use Rattle.version_list.proofs.Laws.{count-none, count-next, count-last, count-bad, next-there}
+use Rattle.version_list.proofs.measure.Statement.{statement}
+use Rattle.version_list.proofs.measure.Tie as tie
+
+abbrev Inv-loop : tie.InvT-loop
+Inv-loop section stated at big kind left₀ entries₀ place₀ left entries place =
+    (entries + left ≡ stated) × (length (walk kind big section stated at .rows) ≡ entries + length (walk kind big section left place .rows)) × (walk kind big section stated at .whole ≡ walk kind big section left place .whole)
+
+abbrev μ-loop : tie.MeasureT-loop
+μ-loop section stated at big kind left₀ entries₀ place₀ left entries place = left
+
+loop-holds : tie.Need-loop-holds Inv-loop μ-loop
+loop-holds c = (omega arith, omega arith, refl)
+
+step-at-requires : tie.Need-step-at-requires Inv-loop μ-loop
+step-at-requires c κs = search needs
+
+enum-known-n : tie.Need-enum-known-n Inv-loop μ-loop
+enum-known-n c = search needs
+
+cast-place : tie.Need-cast-place Inv-loop μ-loop
+cast-place c = search needs
+
+add-place : tie.Need-add-place Inv-loop μ-loop
+add-place c = omega (arith, next-there (c .before .before .before .before .before .before .before .args .kind) (c .before .before .before .before .before .before .before .args .big) (c .before .before .before .before .before .before .before .args .section .now) (c .before .before .before .before .before .loop .place) (sym (c .before .n .given .1) ∙ c .before .before .before .step-at .ensures))
+
+enum-told : tie.Need-enum-told Inv-loop μ-loop
+enum-told c = search needs
+
+add-t13 : tie.Need-add-t13 Inv-loop μ-loop
+add-t13 c = omega arith
+
+returns : tie.Need-returns Inv-loop μ-loop
+returns c =
+    let q = count-last (c .before .before .before .before .before .before .args .kind) (c .before .before .before .before .before .before .args .big) (c .before .before .before .before .before .before .args .section .now) (c .before .before .before .before .loop .left) (c .before .before .before .before .loop .place) (c .before .before .before .loop-test .taken) (sym (c .enum-told .given .1) ∙ c .before .before .step-at .ensures) in
+    (omega arith, sym (c .before .before .before .before .loop .inv .2 ∙ q .1))
+
+enum-told-2 : tie.Need-enum-told-2 Inv-loop μ-loop
+enum-told-2 c = search needs
+
+returns-2 : tie.Need-returns-2 Inv-loop μ-loop
+returns-2 c =
+    let q = count-bad (c .before .before .before .before .before .before .args .kind) (c .before .before .before .before .before .before .args .big) (c .before .before .before .before .before .before .args .section .now) (c .before .before .before .before .loop .left) (c .before .before .before .before .loop .place) (c .before .before .before .loop-test .taken) (sym (c .enum-told2 .given .1) ∙ c .before .before .step-at .ensures) in
+    (omega arith, sym (c .before .before .before .before .loop .inv .2 ∙ q .1))
+
+add-entries : tie.Need-add-entries Inv-loop μ-loop
+add-entries c = omega arith
+
+sub-left : tie.Need-sub-left Inv-loop μ-loop
+sub-left c = omega arith
+
+loop-less : tie.Need-loop-less Inv-loop μ-loop
+loop-less c = omega arith
+
+loop-again : tie.Need-loop-again Inv-loop μ-loop
+loop-again c =
+    let q = count-next (c .before .before .before .before .before .before .before .args .kind) (c .before .before .before .before .before .before .before .args .big) (c .before .before .before .before .before .before .before .args .section .now) (c .before .before .before .before .before .loop .left) (c .before .before .before .before .before .loop .place) (c .before .before .before .before .loop-test .taken) (sym (c .before .n .given .1) ∙ c .before .before .before .step-at .ensures) in
+    (omega arith, omega arith, c .before .before .before .before .before .loop .inv .2 ∙ q .1)
+
+returns-3 : tie.Need-returns-3 Inv-loop μ-loop
+returns-3 c =
+    let q = count-none (c .before .before .before .args .kind) (c .before .before .before .args .big) (c .before .before .before .args .section .now) (c .before .loop .left) (c .before .loop .place) (c .loop-test .left) in
+    (omega arith, sym (c .before .loop .inv .2 ∙ q .1))
+
+pub measure-spec : {M : Type 1} → statement M
+measure-spec =
+    tie.close
+    (tie.spec
+    Inv-loop
+    μ-loop
+    loop-holds
+    step-at-requires
+    enum-known-n
+    cast-place
+    add-place
+    enum-told
+    add-t13
+    returns
+    enum-told-2
+    returns-2
+    add-entries
+    sub-left
+    loop-less
+    loop-again
+    returns-3)

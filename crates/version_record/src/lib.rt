@@ -1,0 +1,165 @@
+// The four records of the version sections: their numbers, and what stands at a place of a list of them.
+ghost use mathlib.Core.Path.{_≡_};
+ghost use mathlib.Core.Logic.{_⊎_};
+ghost use Prim.Native.Nat.{_+_, _≤_, _<_};
+ghost use lib.ListN.{length, getD};
+ghost use Rattle.fields.specs.Number.{numberAt};
+ghost use lib.Dec.{ltb};
+ghost use Rattle.layout.specs.Layout.{size, numbersAt};
+ghost use Rattle.version_record.specs.Record.{layout, auxInside, stepAt, writtenAt, outAt};
+use answer::Refusal;
+use cursor::Cursor;
+use cursor::NextHalf;
+use cursor::NextWord;
+use fields::Written;
+
+pub enum Kind {
+    Verdef,
+    Verdaux,
+    Verneed,
+    Vernaux,
+}
+
+// What stands at a place of a list.
+pub enum Step {
+    // A record, and how far from its start the next one stands.
+    Next(u32),
+    // A record that has no next.
+    Last,
+    // No whole record, or one whose first auxiliary would stand past the section.
+    Bad,
+}
+
+// The widths of the fields, in the document's order.
+const VERDEF: [usize; 7] = [2, 2, 2, 2, 4, 4, 4];
+
+const VERDAUX: [usize; 2] = [4, 4];
+
+const VERNEED: [usize; 5] = [2, 2, 4, 4, 4];
+
+const VERNAUX: [usize; 5] = [4, 2, 2, 4, 4];
+
+// How many fields a record has.
+pub fn fields_of(kind: Kind) -> usize
+    ensures { λ r. ⌜ r ≡ length (layout kind) ⌝ }
+{
+    match kind {
+        Kind::Verdef => 7,
+        Kind::Verdaux => 2,
+        Kind::Verneed => 5,
+        Kind::Vernaux => 5,
+    }
+}
+
+pub fn step_at(section: &[u8], at: usize, big: bool, kind: Kind) -> Step
+    ensures { λ r. ⌜ r ≡ stepAt kind big (now (section .entry)) at ⌝ }
+{
+    let size = size_of(kind);
+    if fields::fits(section.len(), at, size) {
+        if aux_inside(section, at, big, kind) {
+            // The offset of the next record is the last field of each.
+            let next = number(section, at + (size - 4), 4, big);
+            if next == 0 {
+                return Step::Last;
+            }
+            return Step::Next(next);
+        }
+        return Step::Bad;
+    }
+    Step::Bad
+}
+
+// Writes the numbers of the record at `at` into `out` from `base`.
+pub fn write(
+    section: &[u8],
+    at: usize,
+    big: bool,
+    kind: Kind,
+    out: &mut [u32],
+    base: usize,
+) -> Written
+    ensures { λ r. ⌜ (r ≡ writtenAt kind (now (section .entry)) at (now (out .entry)) base) × (now (out .exit) ≡ outAt kind big (now (section .entry)) at (now (out .entry)) base) ⌝ }
+{
+    let size = size_of(kind);
+    let n = fields_of(kind);
+    if fields::fits(section.len(), at, size) {
+        if fields::fits(out.len(), base, n) {
+            let mut i: usize = 0;
+            let mut next = at;
+            while i < n {
+                let w = width(kind, i);
+                out[base + i] = number(section, next, w, big);
+                next += w;
+                i += 1;
+            }
+            return Written::Done;
+        }
+        return Written::Refused(Refusal {
+            number: answer::ROOM,
+        });
+    }
+    Written::Refused(Refusal {
+        number: answer::SHORT,
+    })
+}
+
+fn size_of(kind: Kind) -> usize
+    ensures { λ r. ⌜ r ≡ size (layout kind) ⌝ }
+{
+    match kind {
+        Kind::Verdef => 20,
+        Kind::Verdaux => 8,
+        Kind::Verneed => 16,
+        Kind::Vernaux => 16,
+    }
+}
+
+fn width(kind: Kind, i: usize) -> usize
+    requires { ⌜ i < length (layout kind) ⌝ }
+    ensures { λ r. ⌜ r ≡ getD (layout kind) i 0 ⌝ }
+{
+    match kind {
+        Kind::Verdef => VERDEF[i],
+        Kind::Verdaux => VERDAUX[i],
+        Kind::Verneed => VERNEED[i],
+        Kind::Vernaux => VERNAUX[i],
+    }
+}
+
+// Whether the first auxiliary of the record at `at`, if it is of a kind that has some, stands before the section's end.
+fn aux_inside(section: &[u8], at: usize, big: bool, kind: Kind) -> bool
+    requires { ⌜ at + size (layout kind) ≤ length (now section) ⌝ }
+    ensures { λ r. ⌜ r ≡ auxInside kind (length (now (section .entry))) at (numbersAt big (layout kind) (now (section .entry)) at) ⌝ }
+{
+    match kind {
+        Kind::Verdef => inside(section, at, at + 12, big),
+        Kind::Verdaux => true,
+        Kind::Verneed => inside(section, at, at + 8, big),
+        Kind::Vernaux => true,
+    }
+}
+
+// Whether `at` with the number at `from` added is a place of the section.
+fn inside(section: &[u8], at: usize, from: usize, big: bool) -> bool
+    requires { ⌜ (at ≤ length (now section)) × (from + 4 ≤ length (now section)) ⌝ }
+    ensures { λ r. ⌜ r ≡ ltb (at + numberAt big 4 (now (section .entry)) from) (length (now (section .entry))) ⌝ }
+{
+    (number(section, from, 4, big) as usize) < section.len() - at
+}
+
+// The number of `w` bytes at `at`.
+fn number(section: &[u8], at: usize, w: usize, big: bool) -> u32
+    requires { ⌜ (at + w ≤ length (now section)) × ((w ≡ 2) ⊎ (w ≡ 4)) ⌝ }
+    ensures { λ r. ⌜ r ≡ numberAt big w (now (section .entry)) at ⌝ }
+{
+    if w == 2 {
+        return match Cursor::new(at).u16(section, big) {
+            NextHalf::Value(t) => t.value as u32,
+            NextHalf::Refused(_) => 0,
+        };
+    }
+    match Cursor::new(at).u32(section, big) {
+        NextWord::Value(t) => t.value,
+        NextWord::Refused(_) => 0,
+    }
+}

@@ -1,0 +1,3 @@
+-- `Section` is a section as a caller states it, `Answers` what an answer stands for.
+pub mod Section
+pub mod Answers

@@ -1,0 +1,11 @@
+// What the three version sections share: the answer that carries how many entries there are.
+use answer::Refusal;
+
+// How many entries a section or a list has.
+pub enum Counted {
+    // All of it is entries.
+    Whole(usize),
+    // The entries before bytes that are none: answer 1 stands beside their number, and it is not a refusal.
+    Cut(usize),
+    Refused(Refusal),
+}

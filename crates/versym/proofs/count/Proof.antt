@@ -1,0 +1,61 @@
+-- `versym::count` meets its contract: the checks are made in order, and where they pass the section is a part of the file.
+-- Assumes nothing.
+use native.Mathlib.Omega.{arith}
+use Prim.Native.Nat.{_+_, _≤_}
+use mathlib.Core.Path.{refl, sym, _∙_}
+use lib.ListN.{length}
+use borrow.Author.Tests.{le-leb, lt-leb, leb-true}
+use Rattle.answer.proofs.Laws.{must-on, must-off}
+use Rattle.version_section.proofs.Laws.{part-section}
+use Rattle.versym.specs.Versym.{countOf}
+use borrow.Author.Needs.{needs}
+use Rattle.versym.proofs.count.Statement.{statement}
+use Rattle.versym.proofs.count.Tie as tie
+
+returns : tie.Need-returns
+unfolding countOf
+returns c = must-off _ _ _ _ (lt-leb _ _ (c .if1 .taken)) refl
+
+fits-requires : tie.Need-fits-requires
+fits-requires c κs = search needs
+
+add-end : tie.Need-add-end
+add-end c =
+    let h : c .before .before .before .before .args .start + c .before .before .before .before .args .size ≤ length (c .before .before .before .before .args .file .now) = leb-true _ _ (sym (c .before .fits2 .ensures) ∙ c .if2 .taken) in
+    omega arith
+
+sub-count-in : tie.Need-sub-count-in
+sub-count-in c = search needs
+
+part-count-in-start : tie.Need-part-count-in-start
+part-count-in-start c = search needs
+
+part-count-in-end : tie.Need-part-count-in-end
+part-count-in-end c =
+    let h : c .before .before .before .before .args .start + c .before .before .before .before .args .size ≤ length (c .before .before .before .before .args .file .now) = leb-true _ _ (sym (c .before .fits2 .ensures) ∙ c .if2 .taken) in
+    omega arith
+
+count-in-requires : tie.Need-count-in-requires
+count-in-requires c κs = search needs
+
+returns-2 : tie.Need-returns-2
+unfolding countOf
+returns-2 c = must-on _ _ _ _ (le-leb _ _ (c .before .before .before .before .if1 .left)) (must-on _ _ _ _ (sym (c .before .before .before .fits2 .ensures) ∙ c .before .before .if2 .taken) (c .count-in .ensures ∙ rw part-section))
+
+returns-3 : tie.Need-returns-3
+unfolding countOf
+returns-3 c = must-on _ _ _ _ (le-leb _ _ (c .before .before .if1 .left)) (must-off _ _ _ _ (sym (c .before .fits2 .ensures) ∙ c .if2 .left) refl)
+
+pub count-spec : {M : Type 1} → statement M
+count-spec =
+    tie.close
+    (tie.spec
+    returns
+    fits-requires
+    add-end
+    sub-count-in
+    part-count-in-start
+    part-count-in-end
+    count-in-requires
+    returns-2
+    returns-3)
