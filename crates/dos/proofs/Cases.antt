@@ -10,7 +10,7 @@ use Rattle.fields.specs.Number.{numberAt, bytesOf}
 use Rattle.fields.specs.Field.{writtenIn, stored, put}
 use Rattle.fields.specs.declared.Written.the-variants as written
 use Rattle.layout.specs.Layout.{place, readBy, size, writeBy}
-use Rattle.dos.specs.Dos.{fields, dosHeader, headerOf, dosMagic, whole, refusedBy, dosAt, dosWritten, dosStored}
+use Rattle.dos.specs.Dos.{fields, dosHeader, headerOf, whole, refusedBy, dosAt, dosWritten, dosStored}
 
 sixty-four-bytes : size dosHeader ≡ 64
 sixty-four-bytes = refl

@@ -13,8 +13,7 @@ use Rattle.answer.specs.Answer.{cut, refuse, magic, room}
 use Rattle.answer.specs.declared.Refusal.{Refusal}
 use Rattle.answer.proofs.Laws.{must-on, must-off}
 use Rattle.fields.specs.Number.{numberAt}
-use Rattle.fields.specs.Field.{put, writtenIn, stored}
-use Rattle.fields.specs.declared.Written.{Written}
+use Rattle.fields.specs.Field.{put}
 use Rattle.fields.specs.declared.Written.the-variants as written
 use Rattle.fields.proofs.Laws.{Missed, le-or-lt}
 use Rattle.layout.specs.Layout.{array, elements, readBy, numbersAt, writeBy}
@@ -23,7 +22,6 @@ use Rattle.layout.proofs.Theorems.{Reads, whole as all, cut as lacking, reads}
 use Rattle.dos.specs.Dos.{dosHeader, headerOf, numbersOf, dosMagic, whole, refusedBy, start, rest, dosAt, halvesAt, dosWritten, dosStored}
 use Rattle.dos.specs.declared.DosHeader.{DosHeader}
 use Rattle.dos.specs.declared.Halves.{Halves}
-use Rattle.dos.specs.declared.Outcome.{Outcome}
 use Rattle.dos.specs.declared.Outcome.the-variants.{Whole, Refused}
 use Rattle.dos.specs.declared.Found.{Found}
 

@@ -12,7 +12,7 @@ use Rattle.answer.proofs.Unique.{same, same-both}
 use Rattle.fields.specs.Number.{Bytes, numberAt}
 use Rattle.fields.specs.Field.{put}
 use Rattle.fields.specs.declared.Written.{Written}
-use Rattle.layout.specs.Layout.{placed, elements, size, numbersAt, writeBy, Fits}
+use Rattle.layout.specs.Layout.{placed, numbersAt, writeBy, Fits}
 use Rattle.layout.proofs.Laws.{read-full}
 use Rattle.layout.proofs.Theorems.{length-written, read-written, written-read, elements-all}
 use Rattle.dos.specs.Dos.{fields, dosHeader, headerOf, numbersOf, dosMagic, whole, dosAt, dosWritten, dosStored}

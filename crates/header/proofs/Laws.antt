@@ -1,6 +1,6 @@
 -- The laws of opening a file, a law for each outcome of each check: what the proofs of this crate cite.
 -- Assumes nothing.
-use mathlib.Core.Path.{_≡_, refl, sym, ap, _∙_}
+use mathlib.Core.Path.{_≡_, refl, _∙_}
 use mathlib.Core.List.{List}
 use mathlib.Core.Bool.{false}
 use Prim.Native.Nat.{ℕ, zero, suc, _+_, _-_, _≤_, _<_}
@@ -34,7 +34,6 @@ use Rattle.section.specs.declared.Found.the-variants as row
 use Rattle.header.specs.Header.{pointerIn, peMagic, coffIn, optionalOffset, rowsAt, headerOf, headerIn}
 use Rattle.header.specs.declared.Rows.{Rows}
 use Rattle.header.specs.declared.Rows.the-variants as rows
-use Rattle.header.specs.declared.Opened.{Opened}
 use Rattle.header.specs.declared.Opened.the-variants.{At, Refused}
 
 -- The PE pointer, from what the reading of the DOS header tells.

@@ -4,7 +4,6 @@ use mathlib.Core.Path.{_≡_, refl}
 use mathlib.Core.List.{List, [], _∷_, _++_}
 use mathlib.Core.Bool.{true, false}
 use Prim.Native.Nat.{ℕ}
-use lib.ListN.{take}
 use Rattle.answer.specs.Answer.{refuse, short, limit, noSection, cut}
 use Rattle.answer.specs.Test.{must}
 use Rattle.fields.specs.Number.{numberAt, bytesOf}

@@ -1,6 +1,6 @@
 -- The laws of rounding, of powers of two and of the search over rows: what the proofs of this crate cite.
 -- Assumes nothing.
-use mathlib.Core.Path.{_≡_, refl, sym, ap, _∙_}
+use mathlib.Core.Path.{_≡_, refl, sym, _∙_}
 use mathlib.Core.List.{List}
 use mathlib.Core.Bool.{Bool, true, false}
 use Prim.Native.Nat.{ℕ, zero, suc, _+_, _-_, _*_, _/_, _%_, _^_, _≤_, _<_, min}
@@ -17,7 +17,7 @@ use Rattle.section.specs.Section.{rowAt, onRow, sectionLimit}
 use Rattle.section.specs.declared.SectionHeader.{SectionHeader}
 use Rattle.section.specs.declared.Found.{Found}
 use Rattle.section.specs.declared.Found.the-variants as found
-use Rattle.mapping.specs.Mapping.{down, up, powerBelow, powerOfTwo, stored, readableSize, holds, offsetIn, firstOf, offsetOf}
+use Rattle.mapping.specs.Mapping.{up, powerBelow, powerOfTwo, stored, readableSize, holds, offsetIn, firstOf, offsetOf}
 use Rattle.mapping.specs.declared.Mapped.{Mapped}
 use Rattle.mapping.specs.declared.Mapped.the-variants.{At, Refused}
 

@@ -9,12 +9,11 @@ use native.Mathlib.Omega.{arith}
 use lib.ListN.{length}
 use lib.Dec.{leb, eqb}
 use borrow.Author.Tests.{le-leb, lt-leb, eq-eqb, ne-eqb}
-use Rattle.answer.specs.Answer.{refuse, short, magic, contradiction, cut}
+use Rattle.answer.specs.Answer.{refuse, short, magic, contradiction}
 use Rattle.answer.specs.Test.{pick, must}
 use Rattle.answer.specs.declared.Refusal.{Refusal}
 use Rattle.answer.proofs.Laws.{must-on, must-off}
 use Rattle.fields.specs.Number.{numberAt}
-use Rattle.fields.specs.Field.{fieldOf}
 use Rattle.fields.specs.declared.Word.{Word}
 use Rattle.fields.specs.declared.Word.the-variants as word
 use Rattle.fields.proofs.Laws.{Missed, le-or-lt, cut-short, field-value, field-cut}

@@ -10,7 +10,6 @@ use Rattle.answer.specs.declared.Refusal.{Refusal}
 use Rattle.fields.specs.Field.{fieldOf}
 use Rattle.optional.specs.declared.Form.{Form}
 use Rattle.optional.specs.declared.Form.the-variants.{Pe32, Pe32Plus}
-use Rattle.optional.specs.declared.Exceptions.{Exceptions}
 use Rattle.optional.specs.declared.Exceptions.the-variants as exceptions
 use Rattle.optional.specs.declared.OptionalHeader.{OptionalHeader}
 use Rattle.optional.specs.declared.Found.{Found}

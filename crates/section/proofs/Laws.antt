@@ -12,8 +12,8 @@ use Rattle.answer.specs.Test.{fileLimit}
 use Rattle.answer.specs.declared.Refusal.{Refusal}
 use Rattle.answer.proofs.Laws.{must-on, must-off}
 use Rattle.fields.proofs.Laws.{cut-short}
-use Rattle.layout.specs.Layout.{readBy, numbersAt}
-use Rattle.layout.proofs.Laws.{read-short}
+use Rattle.layout.specs.Layout.{numbersAt}
+use Rattle.layout.proofs.Laws.{read-short, read-full}
 use Rattle.layout.proofs.Theorems.{Reads, whole, cut as missing, reads}
 use Rattle.section.specs.Section.{sectionHeader, rowOf, rowAt, sectionLimit, sectionAt}
 use Rattle.section.specs.declared.SectionHeader.{SectionHeader}
@@ -74,3 +74,8 @@ module _ (s : List ℕ) (table count index : ℕ) where
       unfolding sectionAt
       section-row i e =
           must-on Refused _ _ _ (le-leb _ _ l) (must-on Refused _ _ _ (le-leb _ _ m) (must-on Refused _ _ _ (lt-ltb _ _ i) e))
+
+-- a row whose bytes are all there
+pub row-full : (s : List ℕ) (at : ℕ) → at + 40 ≤ length s → At (rowOf (numbersAt false sectionHeader s at)) ≡ rowAt s at
+unfolding rowAt
+row-full s at h = read-full false s (λ ns. At (rowOf ns)) (λ end. Refused (cut end)) sectionHeader at h

@@ -1,6 +1,6 @@
 -- What is proved of the section table, for every input. That a function answers its definition is its contract (src/lib.rt).
 -- Assumes nothing.
-use mathlib.Core.Path.{_≡_, refl, sym, ap, _∙_}
+use mathlib.Core.Path.{_≡_, refl, ap, _∙_}
 use mathlib.Core.List.{List}
 use mathlib.Core.Bool.{false}
 use mathlib.Core.Logic.{⊎-elim}

@@ -7,7 +7,7 @@ use mathlib.Core.List.{List, [], _∷_}
 use mathlib.Core.Bool.{false}
 use lib.ListN.{getD}
 use lib.Dec.{leb, ltb}
-use Rattle.answer.specs.Answer.{cut, short, limit, notFound}
+use Rattle.answer.specs.Answer.{cut, limit, notFound}
 use Rattle.answer.specs.Test.{must, inLimit}
 use Rattle.answer.specs.declared.Refusal.{Refusal}
 use Rattle.layout.specs.Layout.{Field, field, widths, place, readBy}

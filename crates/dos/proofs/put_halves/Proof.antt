@@ -1,7 +1,7 @@
 -- `dos::put_halves` meets its contract. The invariant: the first `i` numbers are put, and nothing else. The measure is what is left of 30.
 -- Assumes nothing.
 use native.Mathlib.Omega.{arith}
-use Prim.Native.Nat.{_+_, _*_, _-_, _≤_, _<_}
+use Prim.Native.Nat.{_+_, _*_, _-_, _≤_}
 use mathlib.Core.Path.{_≡_, refl}
 use mathlib.Core.List.{[]}
 use mathlib.Core.Bool.{false}

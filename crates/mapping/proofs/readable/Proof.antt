@@ -2,8 +2,7 @@
 -- Assumes nothing.
 use mathlib.Core.Path.{refl}
 use native.Mathlib.Omega.{arith}
-use mathlib.Core.Path.{_≡_, _∙_}
-use Prim.Native.Nat.{_+_, _*_, _/_, _-_, _≤_, min}
+use Prim.Native.Nat.{_+_}
 use Rattle.mapping.proofs.Laws.{up-least, readable-none, readable-stored, readable-least}
 use borrow.Author.Needs.{needs}
 use Rattle.mapping.proofs.readable.Statement.{statement}

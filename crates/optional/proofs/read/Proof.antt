@@ -1,7 +1,6 @@
 -- `optional::read` meets its contract: at each `return`, the tests that led there are the premises of a law of `optionalAt`.
 -- Assumes nothing.
 use native.Mathlib.Omega.{arith}
-use mathlib.Core.Path.{_≡_, refl, sym, ap, _∙_}
 use Rattle.cursor.proofs.Laws.{half-took, half-cut}
 use Rattle.optional.proofs.Laws.{optional-missed, optional-narrow, optional-wide, optional-wrong}
 use borrow.Author.Needs.{needs}

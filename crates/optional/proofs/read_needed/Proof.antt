@@ -1,7 +1,7 @@
 -- `optional::read_needed` meets its contract: the read of the field tells which case it is, and the stated size the rest.
 -- Assumes nothing.
 use native.Mathlib.Omega.{arith}
-use mathlib.Core.Path.{_≡_, refl, sym, ap, _∙_}
+use mathlib.Core.Path.{sym, ap, _∙_}
 use Rattle.cursor.proofs.Laws.{word-took, word-cut}
 use Rattle.fields.specs.declared.Word.the-variants as word
 use Rattle.optional.proofs.Laws.{needed-missed, needed-past, needed-outside, needed-value}
