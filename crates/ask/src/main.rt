@@ -40,6 +40,10 @@ fn read_door(line: &[u8], r: Request, s: &[u8], out: &mut [u8; 65536], at: usize
     if header.known {
         return header;
     }
+    let exception = ask_exception::answer_read(word, r, s, out, at);
+    if exception.known {
+        return exception;
+    }
     ask_versions::answer_read(word, r, s, out, at)
 }
 

@@ -5,7 +5,9 @@ use goblin::pe::data_directories::DataDirectory;
 use goblin::pe::exception::{
     ExceptionData, RuntimeFunction, ScopeTableEntry, StackFrameOffset, UnwindCode, UnwindHandler, UnwindInfo, UnwindOperation,
 };
+use goblin::pe::header::COFF_MACHINE_X86_64;
 use goblin::pe::options::ParseOptions;
+use goblin::pe::utils::find_offset;
 use scroll::{Pwrite, LE};
 
 fn function_values(f: &RuntimeFunction) -> Vec<String> {
@@ -18,6 +20,26 @@ fn data<'a>(bytes: &'a [u8], table: usize, count: usize) -> Option<ExceptionData
     options.resolve_rva = false;
     let directory = DataDirectory { virtual_address: 0, size: u32::try_from(count.checked_mul(12)?).ok()? };
     ExceptionData::parse_with_opts(bytes.get(table..)?, directory, &[], 1, &options).ok()
+}
+
+/// Opening by the parts, in document 01's order; goblin checks neither the order of the table nor that it lies in the file.
+fn opened(bytes: &[u8]) -> Option<Result<Vec<String>, ()>> {
+    let image = match crate::pe::image(bytes)? {
+        Ok(image) => image,
+        Err(()) => return Some(Err(())),
+    };
+    Some((|| {
+        if image.coff.machine != COFF_MACHINE_X86_64 {
+            return Err(());
+        }
+        let directory = *image.optional.data_directories.get_exception_table().ok_or(())?;
+        let alignment = image.optional.windows_fields.file_alignment;
+        let data = ExceptionData::parse(bytes, directory, &image.sections, alignment).map_err(|_| ())?;
+        let address = directory.virtual_address as usize;
+        let table = find_offset(address, &image.sections, alignment, &ParseOptions::default()).ok_or(())?;
+        let numbers = [table, data.len(), image.table, image.sections.len(), alignment as usize];
+        Ok(numbers.iter().map(usize::to_string).collect())
+    })())
 }
 
 fn offset_values(offset: &StackFrameOffset) -> Vec<String> {
@@ -106,6 +128,10 @@ pub fn answer(request: &Request) -> Option<String> {
             let data = data(bytes, request.place(0), request.place(1))?;
             let address = u32::try_from(request.number(2)).ok()?;
             told(data.find_function(address).map_err(|_| ()).and_then(|found| found.ok_or(())), |f| function_values(&f))
+        }
+        "exceptions" => {
+            let bytes = request.bytes_after(0)?;
+            told(opened(bytes)?, |words| words)
         }
         "record" => {
             let bytes = request.bytes_after(3)?;

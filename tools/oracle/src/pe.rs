@@ -57,8 +57,18 @@ fn optional_values(h: &OptionalHeader) -> Vec<String> {
     words
 }
 
-/// The headers of an image by their parts, in file order. `None` where there is no optional header.
-fn headers(bytes: &[u8]) -> Option<Result<Vec<String>, ()>> {
+/// The headers of an image, by their parts.
+pub struct Image {
+    pub dos: DosHeader,
+    pub coff: CoffHeader,
+    pub optional: OptionalHeader,
+    pub sections: Vec<SectionTable>,
+    /// Where the section table starts.
+    pub table: usize,
+}
+
+/// The parts in file order. `None` where there is no optional header.
+pub fn image(bytes: &[u8]) -> Option<Result<Image, ()>> {
     let parsed = DosHeader::parse(bytes).map_err(|_| ()).and_then(|dos| {
         let at = dos.pe_pointer as usize + 4;
         Ok((dos, bytes.pread_with::<CoffHeader>(at, LE).map_err(|_| ())?))
@@ -70,18 +80,22 @@ fn headers(bytes: &[u8]) -> Option<Result<Vec<String>, ()>> {
     if coff.size_of_optional_header == 0 {
         return None;
     }
-    let optional_offset = dos.pe_pointer as usize + 24;
-    let mut table = optional_offset + coff.size_of_optional_header as usize;
-    let start = table;
+    let at = dos.pe_pointer as usize + 24;
+    let table = at + coff.size_of_optional_header as usize;
     Some((|| {
-        let optional = bytes.pread_with::<OptionalHeader>(optional_offset, LE).map_err(|_| ())?;
-        coff.sections(bytes, &mut table).map_err(|_| ())?;
-        let mut words = vec![dos.pe_pointer.to_string(), coff.machine.to_string(), coff.number_of_sections.to_string()];
-        words.extend([optional_offset.to_string(), coff.size_of_optional_header.to_string()]);
-        words.extend(optional_values(&optional));
-        words.push(start.to_string());
-        Ok(words)
+        let optional = bytes.pread_with::<OptionalHeader>(at, LE).map_err(|_| ())?;
+        let sections = coff.sections(bytes, &mut table.clone()).map_err(|_| ())?;
+        Ok(Image { dos, coff, optional, sections, table })
     })())
+}
+
+fn image_values(image: &Image) -> Vec<String> {
+    let (dos, coff) = (&image.dos, &image.coff);
+    let mut words = vec![dos.pe_pointer.to_string(), coff.machine.to_string(), coff.number_of_sections.to_string()];
+    words.extend([(dos.pe_pointer as usize + 24).to_string(), coff.size_of_optional_header.to_string()]);
+    words.extend(optional_values(&image.optional));
+    words.push(image.table.to_string());
+    words
 }
 
 /// Row `index` of the table at `table`.
@@ -146,7 +160,7 @@ pub fn answer(request: &Request) -> Option<String> {
         }
         "pe" => {
             let bytes = request.bytes_after(0)?;
-            told(headers(bytes)?, |words| words)
+            told(image(bytes)?, |image| image_values(&image))
         }
         "section" => {
             let bytes = request.bytes_after(3)?;

@@ -1,0 +1,234 @@
+"""Unwind info, operations and scope tables, against goblin's `UnwindInfo`."""
+import struct
+
+from .common import around, hexed, noise
+
+NAME = 'unwind_info'
+DOORS = ['unwind', 'codes', 'code', 'scopes', 'scope', 'scope_put']
+
+
+def taken(line):
+    words = line.split(' ')
+    return words[0], [int(w) for w in words[1:-1]], bytes.fromhex(words[-1][1:])
+
+
+def words_at(data, at, n):
+    return struct.unpack_from(f'<{n}I', data, at) if at + 4 * n <= len(data) else None
+
+
+def joined(*numbers):
+    return 'ok ' + ' '.join(map(str, numbers))
+
+
+# Document 01's answers.
+
+def info(data, at):
+    """The refusal's number, or (version, prolog, slots, register, offset, the words of its tail)."""
+    if at >= len(data):
+        return 1
+    version, flags = data[at] & 7, data[at] >> 3
+    if version not in (1, 2):
+        return 6
+    if at + 4 > len(data):
+        return 1
+    prolog, count, frame = data[at + 1:at + 4]
+    end = at + 4 + 2 * count
+    if end > len(data):
+        return 1
+    slots = data[at + 4:end]
+    end += 2 * (count % 2)
+    tail = [0]
+    if flags & 4:
+        chained = words_at(data, end, 3)
+        if chained is None:
+            return 1
+        tail = [1, *chained]
+    elif flags & 3:
+        handler = words_at(data, end, 1)
+        if handler is None:
+            return 1
+        tail = [2 if flags & 1 else 3, handler[0], end + 4, len(data) - end - 4]
+    return version, prolog, slots, frame & 15, (frame >> 4) * 16, tail
+
+
+def unwind(data, at):
+    got = info(data, at)
+    if isinstance(got, int):
+        return f'no {got}'
+    version, prolog, _, register, offset, tail = got
+    return joined(version, prolog, register, offset, *tail)
+
+
+def decoded(version, slots, register):
+    """The operations of the slots, up to the first that is refused: (code offset, kind, data..); then the refusal, or 0."""
+    at, operations = 0, []
+    base = 1 if register else 0
+    while at < len(slots):
+        where, op, more = slots[at], slots[at + 1] & 15, slots[at + 1] >> 4
+        half = struct.unpack_from('<H', slots, at + 2)[0] if at + 4 <= len(slots) else None
+        full = struct.unpack_from('<I', slots, at + 2)[0] if at + 6 <= len(slots) else None
+        size, number = 1, 0
+        if op == 1 and more > 1 or op == 10 and more > 1 or op > 10:
+            return operations, 7
+        if op in (4, 8) or op == 1 and more == 0 or op == 6 and version == 1:
+            size, number = 2, half
+        if op in (5, 7, 9) or op == 1 and more == 1:
+            size, number = 3, full
+        if number is None:
+            return operations, 1
+        kinds = {
+            0: lambda: (0, more),
+            1: lambda: (1, number * 8 if more == 0 else number),
+            2: lambda: (1, more * 8 + 8),
+            3: lambda: (2,),
+            4: lambda: (3, more, base, number * 8),
+            5: lambda: (3, more, base, number),
+            6: lambda: (4, 17 + more, base, number * 16) if version == 1 else (5, where, more),
+            7: lambda: (4, 17 + more, base, number) if version == 1 else (8,),
+            8: lambda: (6, 17 + more, base, number * 16),
+            9: lambda: (6, 17 + more, base, number),
+            10: lambda: (7, more),
+        }
+        operations.append((where, *kinds[op]()))
+        at += 2 * size
+    return operations, 0
+
+
+def codes(data, at):
+    got = info(data, at)
+    if isinstance(got, int):
+        return f'no {got}'
+    operations, why = decoded(got[0], got[2], got[3])
+    return f'no {why}' if why else joined(len(operations))
+
+
+def code(data, at, index):
+    got = info(data, at)
+    if isinstance(got, int):
+        return f'no {got}'
+    operations, why = decoded(got[0], got[2], got[3])
+    if why:
+        return f'no {why}'
+    return joined(*operations[index]) if index < len(operations) else 'no 10'
+
+
+def scopes(data):
+    count = words_at(data, 0, 1)
+    if count is None:
+        return 'no 1'
+    return joined(count[0]) if 4 + 16 * count[0] <= len(data) else 'no 4'
+
+
+def scope(data, index):
+    count = scopes(data)
+    if count.startswith('no'):
+        return count
+    return joined(*words_at(data, 4 + 16 * index, 4)) if index < int(count[3:]) else 'no 10'
+
+
+def scope_put(data, at, *numbers):
+    if at + 16 > len(data):
+        return f'no 13 {hexed(data)}'
+    return f'ok {hexed(data[:at] + struct.pack("<4I", *numbers) + data[at + 16:])}'
+
+
+def expected(line):
+    door, numbers, data = taken(line)
+    return globals()[door](data, *numbers)
+
+
+# Where goblin answers otherwise.
+
+def first_version_seven(line):
+    door, numbers, data = taken(line)
+    if door != 'code':
+        return False
+    got = info(data, numbers[0])
+    if isinstance(got, int) or got[0] != 1:
+        return False
+    operations, _ = decoded(got[0], got[2], got[3])
+    at = 0
+    for k, operation in enumerate(operations):
+        op, more = got[2][at + 1] & 15, got[2][at + 1] >> 4
+        if k == numbers[1]:
+            return op == 7
+        at += 2 * (2 if op in (4, 6, 8) or (op, more) == (1, 0) else 3 if op in (5, 7, 9) or (op, more) == (1, 1) else 1)
+    return False
+
+
+def scopes_wrap(line):
+    door, _, data = taken(line)
+    count = words_at(data, 0, 1)
+    return door in ('scopes', 'scope') and count is not None and count[0] >= 0x10000000
+
+
+def partial(line):
+    door, numbers, data = taken(line)
+    return door == 'scope_put' and numbers[0] + 4 <= len(data) < numbers[0] + 16
+
+
+RULES = [
+    ('D1', partial, expected),
+    ('D9', first_version_seven, expected),
+    ('D10', scopes_wrap, expected),
+]
+
+
+# Requests.
+
+def exhaustive():
+    """Every first byte; every slot value of one- and two-slot lists, in both versions; infos cut at every length."""
+    for first in range(256):
+        for count in (0, 1, 2):
+            yield f'unwind 0 {hexed(bytes([first, 4, count, 0x35, 4, 0x42, 0, 0]) + bytes(range(1, 21)))}'
+    for version in (1, 2):
+        for op in range(256):
+            for frame in (0, 0x25):
+                yield f'codes 0 {hexed(bytes([version, 4, 1, frame, 4, op, 0, 0]))}'
+                yield f'code 0 0 {hexed(bytes([version, 4, 1, frame, 4, op, 0, 0]))}'
+                for second in ((6, 0), (255, 255)):
+                    data = hexed(bytes([version, 4, 2, frame, 4, op, *second]))
+                    yield f'codes 0 {data}'
+                    yield f'code 0 0 {data}'
+                    yield f'code 0 1 {data}'
+                yield f'code 0 0 {hexed(bytes([version, 4, 3, frame, 4, op, 1, 2, 3, 4, 0, 0]))}'
+    for flags in (0, 1, 2, 3, 4, 5, 8, 31):
+        for count in (0, 1, 2, 3):
+            whole = bytes([1 + 8 * flags, 4, count, 0]) + bytes([4, 0x42] * count) + bytes(2 * (count % 2)) + bytes(range(1, 25))
+            for n in range(len(whole) + 1):
+                yield f'unwind 0 {hexed(whole[:n])}'
+    for n in range(40):
+        for count in (0, 1, 2, 3):
+            data = hexed((struct.pack('<I', count) + bytes(range(40)))[:n])
+            yield f'scopes {data}'
+            yield f'scope 0 {data}'
+            yield f'scope 1 {data}'
+    for count in (0x0FFFFFFF, 0x10000000, 0x10000001, 0x20000001, 0xFFFFFFFF):
+        for n in (0, 16, 32):
+            yield f'scopes {hexed(struct.pack("<I", count) + bytes(n))}'
+            yield f'scope 0 {hexed(struct.pack("<I", count) + bytes(n))}'
+    for n in range(20):
+        for at in range(5):
+            yield f'scope_put {at} 1 2 3 4294967295 {hexed(bytes(n))}'
+
+
+def requests(rng, count):
+    made = list(exhaustive())
+    yield from made
+    for _ in range(max(count - len(made), 0)):
+        door = rng.choice(['unwind', 'codes', 'code', 'code', 'scope'])
+        if door == 'scope':
+            n = rng.randrange(4)
+            data = struct.pack('<I', max(n + rng.choice([0, 0, 0, 1, -1]), 0)) + noise(rng, 16 * n)
+            yield f'scope {around(rng, 0, n)} {hexed(data)}'
+        else:
+            n = rng.choice([0, 1, 2, 3, 4, 5, 8, 16])
+            slots = bytes(x for _ in range(n) for x in (rng.randrange(8), rng.choice([0, 1, 0x11, 2, 3, 4, 5, 6, 7, 8, 9, 10, 0x1A]) | (rng.getrandbits(4) << 4 if rng.random() < 0.3 else 0)))
+            first = rng.choice([1, 1, 1, 2, 2, 9, 0x11, 0x19, 0x21, 0x0A, rng.getrandbits(8)])
+            data = bytes([first, rng.getrandbits(8), n, rng.choice([0, 0, 5, 0x25, rng.getrandbits(8)])]) + slots + bytes(2 * (n % 2)) + noise(rng, rng.choice([0, 4, 12, 20]))
+            if rng.random() < 0.1:
+                data = data[:rng.randrange(len(data) + 1)]
+            front = noise(rng, rng.choice([0, 0, 0, 3]))
+            at = len(front) if rng.random() < 0.97 else around(rng, 0, len(data), 2 ** 64 - 1)
+            index = f' {around(rng, 0, n)}' if door == 'code' else ''
+            yield f'{door} {at}{index} {hexed(front + data)}'
