@@ -22,8 +22,8 @@ def joined(*numbers):
 
 # Document 01's answers.
 
-def info(data, at):
-    """The refusal's number, or (version, prolog, slots, register, offset, the words of its tail)."""
+def head(data, at):
+    """The refusal's number, or (version, flags, prolog, slots, register, offset, where what follows the codes stands)."""
     if at >= len(data):
         return 1
     version, flags = data[at] & 7, data[at] >> 3
@@ -35,28 +35,27 @@ def info(data, at):
     end = at + 4 + 2 * count
     if end > len(data):
         return 1
-    slots = data[at + 4:end]
-    end += 2 * (count % 2)
-    tail = [0]
+    return version, flags, prolog, data[at + 4:end], frame & 15, (frame >> 4) * 16, end + 2 * (count % 2)
+
+
+def tail(data, flags, at):
+    """What follows the codes, as its numbers, or the refusal's number."""
     if flags & 4:
-        chained = words_at(data, end, 3)
-        if chained is None:
-            return 1
-        tail = [1, *chained]
-    elif flags & 3:
-        handler = words_at(data, end, 1)
-        if handler is None:
-            return 1
-        tail = [2 if flags & 1 else 3, handler[0], end + 4, len(data) - end - 4]
-    return version, prolog, slots, frame & 15, (frame >> 4) * 16, tail
+        chained = words_at(data, at, 3)
+        return 1 if chained is None else [1, *chained]
+    if flags & 3:
+        handler = words_at(data, at, 1)
+        return 1 if handler is None else [2 if flags & 1 else 3, handler[0], at + 4, len(data) - at - 4]
+    return [0]
 
 
 def unwind(data, at):
-    got = info(data, at)
+    got = head(data, at)
     if isinstance(got, int):
         return f'no {got}'
-    version, prolog, _, register, offset, tail = got
-    return joined(version, prolog, register, offset, *tail)
+    version, flags, prolog, _, register, offset, end = got
+    follows = tail(data, flags, end)
+    return f'no {follows}' if isinstance(follows, int) else joined(version, prolog, register, offset, *follows)
 
 
 def decoded(version, slots, register):
@@ -94,22 +93,30 @@ def decoded(version, slots, register):
     return operations, 0
 
 
-def codes(data, at):
-    got = info(data, at)
+def coded(data, at, index):
+    """Header, then the operations in array order up to the one at the index (all for None), then what follows the codes."""
+    got = head(data, at)
     if isinstance(got, int):
         return f'no {got}'
-    operations, why = decoded(got[0], got[2], got[3])
-    return f'no {why}' if why else joined(len(operations))
+    version, flags, _, slots, register, _, end = got
+    operations, why = decoded(version, slots, register)
+    here = index is not None and index < len(operations)
+    if why and not here:
+        return f'no {why}'
+    follows = tail(data, flags, end)
+    if isinstance(follows, int):
+        return f'no {follows}'
+    if index is None:
+        return joined(len(operations))
+    return joined(*operations[index]) if here else 'no 10'
+
+
+def codes(data, at):
+    return coded(data, at, None)
 
 
 def code(data, at, index):
-    got = info(data, at)
-    if isinstance(got, int):
-        return f'no {got}'
-    operations, why = decoded(got[0], got[2], got[3])
-    if why:
-        return f'no {why}'
-    return joined(*operations[index]) if index < len(operations) else 'no 10'
+    return coded(data, at, index)
 
 
 def scopes(data):
@@ -140,20 +147,18 @@ def expected(line):
 # Where goblin answers otherwise.
 
 def first_version_seven(line):
+    """The operation that is asked for is op 7 of version 1."""
     door, numbers, data = taken(line)
-    if door != 'code':
-        return False
-    got = info(data, numbers[0])
+    got = head(data, numbers[0]) if door == 'code' else 0
     if isinstance(got, int) or got[0] != 1:
         return False
-    operations, _ = decoded(got[0], got[2], got[3])
-    at = 0
-    for k, operation in enumerate(operations):
-        op, more = got[2][at + 1] & 15, got[2][at + 1] >> 4
-        if k == numbers[1]:
-            return op == 7
+    slots, at = got[3], 0
+    for _ in range(min(numbers[1], len(slots))):
+        if at + 2 > len(slots):
+            return False
+        op, more = slots[at + 1] & 15, slots[at + 1] >> 4
         at += 2 * (2 if op in (4, 6, 8) or (op, more) == (1, 0) else 3 if op in (5, 7, 9) or (op, more) == (1, 1) else 1)
-    return False
+    return at + 2 <= len(slots) and slots[at + 1] & 15 == 7
 
 
 def scopes_wrap(line):

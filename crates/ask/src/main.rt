@@ -44,6 +44,10 @@ fn read_door(line: &[u8], r: Request, s: &[u8], out: &mut [u8; 65536], at: usize
     if exception.known {
         return exception;
     }
+    let unwind = ask_unwind::answer_read(word, r, s, out, at);
+    if unwind.known {
+        return unwind;
+    }
     ask_versions::answer_read(word, r, s, out, at)
 }
 
@@ -60,7 +64,11 @@ fn write_door(
     if ground.known {
         return ground;
     }
-    ask_header::answer_write(word, r, s, out, at)
+    let header = ask_header::answer_write(word, r, s, out, at);
+    if header.known {
+        return header;
+    }
+    ask_unwind::answer_write(word, r, s, out, at)
 }
 
 fn answer(

@@ -17,7 +17,7 @@ use Rattle.section.specs.Section.{rowAt, onRow, sectionLimit}
 use Rattle.section.specs.declared.SectionHeader.{SectionHeader}
 use Rattle.section.specs.declared.Found.{Found}
 use Rattle.section.specs.declared.Found.the-variants as found
-use Rattle.mapping.specs.Mapping.{up, powerBelow, powerOfTwo, stored, readableSize, holds, offsetIn, firstOf, offsetOf}
+use Rattle.mapping.specs.Mapping.{up, powerBelow, powerOfTwo, readableInFile, readableSize, holds, offsetIn, firstOf, offsetOf}
 use Rattle.mapping.specs.declared.Mapped.{Mapped}
 use Rattle.mapping.specs.declared.Mapped.the-variants.{At, Refused}
 
@@ -85,11 +85,11 @@ module _ (alignment : ℕ) (h : SectionHeader) where
   readable-none e = rw (eq-eqb (h .«size_of_raw_data») 0 e)
 
   module _ (r : h .«size_of_raw_data» ≡ 0 → ⊥) {x : ℕ} where
-    pub readable-stored : h .«virtual_size» ≡ 0 → x ≡ stored alignment h → x ≡ readableSize alignment h
+    pub readable-in-file : h .«virtual_size» ≡ 0 → x ≡ readableInFile alignment h → x ≡ readableSize alignment h
     unfolding readableSize
-    readable-stored e f = rw (ne-eqb (h .«size_of_raw_data») 0 r, eq-eqb (h .«virtual_size») 0 e) f
+    readable-in-file e f = rw (ne-eqb (h .«size_of_raw_data») 0 r, eq-eqb (h .«virtual_size») 0 e) f
 
-    pub readable-least : (h .«virtual_size» ≡ 0 → ⊥) → x ≡ min (stored alignment h) (up 4096 (h .«virtual_size»)) → x ≡ readableSize alignment h
+    pub readable-least : (h .«virtual_size» ≡ 0 → ⊥) → x ≡ min (readableInFile alignment h) (up 4096 (h .«virtual_size»)) → x ≡ readableSize alignment h
     unfolding readableSize
     readable-least e f = rw (ne-eqb (h .«size_of_raw_data») 0 r, ne-eqb (h .«virtual_size») 0 e) f
 
@@ -112,13 +112,13 @@ module _ (alignment : ℕ) (h : SectionHeader) (address : ℕ) where
         let q : address < h .«virtual_address» + readableSize alignment h = omega arith in
         rw (le-leb (h .«virtual_address») address l, lt-ltb address (h .«virtual_address» + readableSize alignment h) q)
 
-stored-most : (alignment : ℕ) (h : SectionHeader) → stored alignment h ≤ up 4096 (h .«size_of_raw_data»)
-stored-most alignment h = min-le-right _ _
+in-file-most : (alignment : ℕ) (h : SectionHeader) → readableInFile alignment h ≤ up 4096 (h .«size_of_raw_data»)
+in-file-most alignment h = min-le-right _ _
 
-readable-by : (alignment : ℕ) (h : SectionHeader) (b c : Bool) → pick b 0 (pick c (stored alignment h) (min (stored alignment h) (up 4096 (h .«virtual_size»)))) ≤ up 4096 (h .«size_of_raw_data»)
+readable-by : (alignment : ℕ) (h : SectionHeader) (b c : Bool) → pick b 0 (pick c (readableInFile alignment h) (min (readableInFile alignment h) (up 4096 (h .«virtual_size»)))) ≤ up 4096 (h .«size_of_raw_data»)
 readable-by alignment h true c = omega arith
-readable-by alignment h false true = stored-most alignment h
-readable-by alignment h false false = omega (arith, stored-most alignment h, min-le-left (stored alignment h) (up 4096 (h .«virtual_size»)))
+readable-by alignment h false true = in-file-most alignment h
+readable-by alignment h false false = omega (arith, in-file-most alignment h, min-le-left (readableInFile alignment h) (up 4096 (h .«virtual_size»)))
 
 -- no more of a section can be read than its raw size and a page less one byte
 pub readable-most : (alignment : ℕ) (h : SectionHeader) → readableSize alignment h < h .«size_of_raw_data» + 4096

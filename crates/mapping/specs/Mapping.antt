@@ -31,8 +31,8 @@ powerOfTwo n = powerBelow 32 n
 
 -- "The raw pointer is rounded down to a multiple of 512. Readable size: raw pointer plus raw size, rounded up to the file alignment,
 -- less the rounded pointer; at most the raw size rounded up to 4,096 .."
-abbrev pub stored : ℕ → SectionHeader → ℕ
-stored alignment h =
+abbrev pub readableInFile : ℕ → SectionHeader → ℕ
+readableInFile alignment h =
     min
     (up alignment (h .«pointer_to_raw_data» + h .«size_of_raw_data») - down 512 (h .«pointer_to_raw_data»))
     (up 4096 (h .«size_of_raw_data»))
@@ -42,7 +42,7 @@ unfoldable pub readableSize : ℕ → SectionHeader → ℕ
 readableSize alignment h =
     pick (eqb (h .«size_of_raw_data») 0)
     0
-    (pick (eqb (h .«virtual_size») 0) (stored alignment h) (min (stored alignment h) (up 4096 (h .«virtual_size»))))
+    (pick (eqb (h .«virtual_size») 0) (readableInFile alignment h) (min (readableInFile alignment h) (up 4096 (h .«virtual_size»))))
 
 -- whether the section holds the address
 unfoldable pub holds : ℕ → SectionHeader → ℕ → Bool

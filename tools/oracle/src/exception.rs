@@ -109,6 +109,18 @@ fn codes(bytes: &[u8], at: usize) -> Result<Vec<UnwindCode>, ()> {
     Ok(all)
 }
 
+/// The code at an index, where none before it is refused: the iterator repeats an error for ever.
+fn code(bytes: &[u8], at: usize, index: usize) -> Result<UnwindCode, ()> {
+    let info = UnwindInfo::parse(bytes, at).map_err(|_| ())?;
+    for (i, code) in info.unwind_codes().enumerate() {
+        let code = code.map_err(|_| ())?;
+        if i == index {
+            return Ok(code);
+        }
+    }
+    Err(())
+}
+
 /// The scope table in a handler's data, by an info whose exception handler has it.
 fn scopes(data: &[u8]) -> Result<Vec<ScopeTableEntry>, ()> {
     let mut bytes = vec![9, 0, 0, 0, 0, 0, 0, 0];
@@ -151,7 +163,7 @@ pub fn answer(request: &Request) -> Option<String> {
         }
         "code" => {
             let bytes = request.bytes_after(2)?;
-            told(codes(bytes, request.place(0)).and_then(|all| all.get(request.place(1)).copied().ok_or(())), |c| code_values(&c))
+            told(code(bytes, request.place(0), request.place(1)), |c| code_values(&c))
         }
         "scopes" => {
             let data = request.bytes_after(0)?;

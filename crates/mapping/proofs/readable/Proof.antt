@@ -3,7 +3,7 @@
 use mathlib.Core.Path.{refl}
 use native.Mathlib.Omega.{arith}
 use Prim.Native.Nat.{_+_}
-use Rattle.mapping.proofs.Laws.{up-least, readable-none, readable-stored, readable-least}
+use Rattle.mapping.proofs.Laws.{up-least, readable-none, readable-in-file, readable-least}
 use borrow.Author.Needs.{needs}
 use Rattle.mapping.proofs.readable.Statement.{statement}
 use Rattle.mapping.proofs.readable.Tie as tie
@@ -41,7 +41,7 @@ least-requires : tie.Need-least-requires
 least-requires c κs = search needs
 
 returns-2 : tie.Need-returns-2
-returns-2 c = readable-stored _ _ (c .before .before .before .before .if1 .left) (c .if2 .taken) (rw (c .before .least .ensures, c .before .before .round-up2 .ensures, c .before .before .before .round-up .ensures) refl)
+returns-2 c = readable-in-file _ _ (c .before .before .before .before .if1 .left) (c .if2 .taken) (rw (c .before .least .ensures, c .before .before .round-up2 .ensures, c .before .before .before .round-up .ensures) refl)
 
 round-up-requires-3 : tie.Need-round-up-requires-3
 round-up-requires-3 c κs = search needs

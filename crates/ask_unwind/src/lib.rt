@@ -1,0 +1,248 @@
+// The requests of unwind info, operations and scope tables.
+use codes::Checked;
+use codes::Coded;
+use operation::StackFrameOffset;
+use operation::UnwindCode;
+use operation::UnwindOperation;
+use register::Register;
+use reply::Reply;
+use request::Request;
+use runtime::RuntimeFunction;
+use scope::Counted;
+use scope::Found;
+use scope::ScopeTableEntry;
+use unwind::Follows;
+use unwind::HandlerKind;
+use unwind::Parsed;
+use unwind::UnwindInfo;
+
+pub fn answer_read(word: &[u8], r: Request, s: &[u8], out: &mut [u8; 65536], at: usize) -> Reply {
+    if text::same(word, b"unwind") {
+        return reply::said(unwind_at(r, s, out, at));
+    }
+    if text::same(word, b"codes") {
+        return reply::said(codes_of(r, s, out, at));
+    }
+    if text::same(word, b"code") {
+        return reply::said(code_at(r, s, out, at));
+    }
+    if text::same(word, b"scopes") {
+        return reply::said(scopes(r, s, out, at));
+    }
+    if text::same(word, b"scope") {
+        return reply::said(scope_at(r, s, out, at));
+    }
+    if text::same(word, b"register") {
+        return reply::said(register_name(r, out, at));
+    }
+    reply::unknown(at)
+}
+
+pub fn answer_write(
+    word: &[u8],
+    r: Request,
+    s: &mut [u8],
+    out: &mut [u8; 65536],
+    at: usize,
+) -> Reply {
+    if text::same(word, b"scope_put") {
+        return reply::said(scope_put(r, s, out, at));
+    }
+    reply::unknown(at)
+}
+
+fn unwind_at(r: Request, s: &[u8], out: &mut [u8; 65536], at: usize) -> usize {
+    if request::has(r, 1, true) {
+        return match unwind::info(s, request::place(r, 0)) {
+            Parsed::Info(i) => put_info(i, out, at),
+            Parsed::Refused(k) => reply::refused(out, at, k),
+        };
+    }
+    reply::usage(out, at, r, b"unwind AT BYTES")
+}
+
+// Version, prolog, frame register and offset, then what follows the codes.
+fn put_info(i: UnwindInfo, out: &mut [u8; 65536], at: usize) -> usize {
+    let register = i.frame_register;
+    let follows = i.follows;
+    let mut end = reply::ok(out, at);
+    end = reply::number(out, end, i.version as u64);
+    end = reply::number(out, end, i.size_of_prolog as u64);
+    end = reply::number(out, end, register.0 as u64);
+    end = reply::number(out, end, i.frame_register_offset as u64);
+    end = put_follows(follows, out, end);
+    reply::end(out, end)
+}
+
+fn put_follows(f: Follows, out: &mut [u8; 65536], at: usize) -> usize {
+    match f {
+        Follows::Nothing => reply::number(out, at, 0),
+        Follows::Chained(e) => put_chained(e, out, at),
+        Follows::Handler {
+            kind,
+            address,
+            start,
+            length,
+        } => {
+            let mut end = reply::number(out, at, kind_number(kind));
+            end = reply::number(out, end, address as u64);
+            end = reply::number(out, end, start as u64);
+            reply::number(out, end, length as u64)
+        }
+    }
+}
+
+fn put_chained(e: RuntimeFunction, out: &mut [u8; 65536], at: usize) -> usize {
+    let mut end = reply::number(out, at, 1);
+    end = reply::number(out, end, e.begin as u64);
+    end = reply::number(out, end, e.end as u64);
+    reply::number(out, end, e.unwind as u64)
+}
+
+fn kind_number(kind: HandlerKind) -> u64 {
+    match kind {
+        HandlerKind::Exception => 2,
+        HandlerKind::Termination => 3,
+    }
+}
+
+fn codes_of(r: Request, s: &[u8], out: &mut [u8; 65536], at: usize) -> usize {
+    if request::has(r, 1, true) {
+        return match codes::checked_info(s, request::place(r, 0)) {
+            Checked::Info(c) => reply::one(out, at, c.codes as u64),
+            Checked::Refused(k) => reply::refused(out, at, k),
+        };
+    }
+    reply::usage(out, at, r, b"codes AT BYTES")
+}
+
+fn code_at(r: Request, s: &[u8], out: &mut [u8; 65536], at: usize) -> usize {
+    if request::has(r, 2, true) {
+        return match codes::code(s, request::place(r, 0), request::place(r, 1)) {
+            Coded::Code(c) => put_code(c, out, at),
+            Coded::Refused(k) => reply::refused(out, at, k),
+        };
+    }
+    reply::usage(out, at, r, b"code AT INDEX BYTES")
+}
+
+fn put_code(c: UnwindCode, out: &mut [u8; 65536], at: usize) -> usize {
+    let operation = c.operation;
+    let mut end = reply::ok(out, at);
+    end = reply::number(out, end, c.code_offset as u64);
+    end = put_operation(operation, out, end);
+    reply::end(out, end)
+}
+
+// A number for the kind, then its data.
+fn put_operation(o: UnwindOperation, out: &mut [u8; 65536], at: usize) -> usize {
+    match o {
+        UnwindOperation::PushNonVolatile(r) => put_two(0, r.0 as u64, out, at),
+        UnwindOperation::Alloc(n) => put_two(1, n as u64, out, at),
+        UnwindOperation::SetFPRegister => reply::number(out, at, 2),
+        UnwindOperation::SaveNonVolatile(r, p) => put_save(3, r, p, out, at),
+        UnwindOperation::SaveXMM(r, p) => put_save(4, r, p, out, at),
+        UnwindOperation::Epilog {
+            offset_low_or_size,
+            offset_high_or_flags,
+        } => {
+            let end = put_two(5, offset_low_or_size as u64, out, at);
+            reply::number(out, end, offset_high_or_flags as u64)
+        }
+        UnwindOperation::SaveXMM128(r, p) => put_save(6, r, p, out, at),
+        UnwindOperation::PushMachineFrame(error) => put_frame(error, out, at),
+        UnwindOperation::Noop => reply::number(out, at, 8),
+    }
+}
+
+fn put_frame(error: bool, out: &mut [u8; 65536], at: usize) -> usize {
+    if error {
+        return put_two(7, 1, out, at);
+    }
+    put_two(7, 0, out, at)
+}
+
+fn put_two(kind: u64, n: u64, out: &mut [u8; 65536], at: usize) -> usize {
+    let end = reply::number(out, at, kind);
+    reply::number(out, end, n)
+}
+
+fn put_save(
+    kind: u64,
+    r: Register,
+    p: StackFrameOffset,
+    out: &mut [u8; 65536],
+    at: usize,
+) -> usize {
+    let end = put_two(kind, r.0 as u64, out, at);
+    match p {
+        StackFrameOffset::RSP(n) => put_two(0, n as u64, out, end),
+        StackFrameOffset::FP(n) => put_two(1, n as u64, out, end),
+    }
+}
+
+fn scopes(r: Request, s: &[u8], out: &mut [u8; 65536], at: usize) -> usize {
+    if request::has(r, 0, true) {
+        return match scope::count(s) {
+            Counted::Entries(n) => reply::one(out, at, n as u64),
+            Counted::Refused(k) => reply::refused(out, at, k),
+        };
+    }
+    reply::usage(out, at, r, b"scopes BYTES")
+}
+
+fn scope_at(r: Request, s: &[u8], out: &mut [u8; 65536], at: usize) -> usize {
+    if request::has(r, 1, true) {
+        return match scope::entry(s, request::place(r, 0)) {
+            Found::At(e) => put_entry(e, out, at),
+            Found::Refused(k) => reply::refused(out, at, k),
+        };
+    }
+    reply::usage(out, at, r, b"scope INDEX BYTES")
+}
+
+fn put_entry(e: ScopeTableEntry, out: &mut [u8; 65536], at: usize) -> usize {
+    let mut end = reply::ok(out, at);
+    end = reply::number(out, end, e.begin as u64);
+    end = reply::number(out, end, e.end as u64);
+    end = reply::number(out, end, e.handler as u64);
+    end = reply::number(out, end, e.target as u64);
+    reply::end(out, end)
+}
+
+fn register_name(r: Request, out: &mut [u8; 65536], at: usize) -> usize {
+    if request::has(r, 1, false) {
+        let n = request::number(r, 0);
+        if n < 256 {
+            let name = Register(n as u8).name();
+            let first = reply::ok(out, at);
+            let last = reply::bytes(out, first, &name);
+            return reply::end(out, last);
+        }
+    }
+    reply::usage(out, at, r, b"register NUMBER, below 256")
+}
+
+// The low 32 bits of a number.
+fn low(n: u64) -> u32 {
+    (n % 4294967296) as u32
+}
+
+fn scope_put(r: Request, s: &mut [u8], out: &mut [u8; 65536], at: usize) -> usize {
+    if request::has(r, 5, true) {
+        let e = ScopeTableEntry {
+            begin: low(request::number(r, 1)),
+            end: low(request::number(r, 2)),
+            handler: low(request::number(r, 3)),
+            target: low(request::number(r, 4)),
+        };
+        let w = scope::write(s, request::place(r, 0), e);
+        return reply::written(w, s, out, at);
+    }
+    reply::usage(
+        out,
+        at,
+        r,
+        b"scope_put AT BEGIN END HANDLER TARGET BYTES, each taken modulo 2^32",
+    )
+}

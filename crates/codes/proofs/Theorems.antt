@@ -1,0 +1,92 @@
+-- What is proved of the codes of an unwind info, for every input. That a function answers its definition is its contract (src/lib.rt).
+-- Assumes nothing.
+use mathlib.Core.Path.{_≡_, refl, ap, _∙_}
+use mathlib.Core.List.{List, [], _∷_}
+use mathlib.Core.Bool.{Bool, true, false}
+use Prim.Native.Nat.{ℕ, zero, suc, _+_, _-_, _≤_, _<_}
+use native.Mathlib.Nat.{le-of-suc-le-suc, not-suc-le-zero}
+use native.Mathlib.Omega.{arith}
+use lib.ListN.{length}
+use lib.Dec.{leb}
+use Rattle.answer.specs.Answer.{refuse, notFound}
+use Rattle.answer.specs.Test.{pick}
+use Rattle.answer.proofs.Unique.{same}
+use Rattle.operation.specs.Operation.{slotCount, codeAt}
+use Rattle.operation.specs.declared.UnwindCode.{UnwindCode}
+use Rattle.operation.specs.declared.TakenCode.{TakenCode}
+use Rattle.operation.specs.declared.NextCode.{NextCode}
+use Rattle.operation.specs.declared.NextCode.the-variants as next
+use Rattle.unwind.specs.declared.UnwindInfo.{UnwindInfo}
+use Rattle.codes.specs.Codes.{whole, Codes, finished, refusedHere, preceded, onCode, codesFrom, codesAt, nthBy, nthOf, codesOf, has, wholeAt, checkedOf, codeIn}
+use Rattle.codes.specs.declared.Reached.the-variants as reached
+use Rattle.codes.specs.declared.Checked.{Checked}
+use Rattle.codes.specs.declared.Coded.{Coded}
+use Rattle.codes.specs.declared.Coded.the-variants.{Code, Refused}
+use Rattle.codes.proofs.Laws.{enough, whole-told, code-here, code-past}
+
+-- The bound of `codesFrom` cuts nothing off: with more than the slots left, the operations are the same.
+pub bound-enough : (s : List ℕ) (v frame n at : ℕ) → slotCount s ≤ at + n → codesFrom n s at v frame ≡ codesAt s at v frame
+unfolding codesAt
+bound-enough s v frame n at h = enough s v frame n (slotCount s - at) at h (omega arith)
+
+module _ (s : List ℕ) (v frame : ℕ) where
+  most-turn : (n : ℕ) (x : NextCode) → ((t : TakenCode) → length (codesFrom n s (t .next) v frame .listed) ≤ n) → length (onCode x refusedHere (λ t. preceded (t .code) (codesFrom n s (t .next) v frame)) .listed) ≤ suc n
+  most-turn n (next.Value t) f = omega (arith, f t)
+  most-turn n (next.Refused k) f = omega arith
+
+  most-test : (n : ℕ) (test : Bool) (x : Codes) → length (x .listed) ≤ n → length (pick test finished x .listed) ≤ n
+  most-test n true x h = omega arith
+  most-test n false x h = h
+
+  from-most : (n at : ℕ) → length (codesFrom n s at v frame .listed) ≤ n
+  unfolding codesFrom
+  from-most zero at = omega arith
+  from-most (suc n) at =
+      most-test (suc n) (leb (slotCount s) at) (onCode (codeAt s at v frame) refusedHere (λ t. preceded (t .code) (codesFrom n s (t .next) v frame))) (most-turn n (codeAt s at v frame) (λ t. from-most n (t .next)))
+
+-- There are no more operations than slots.
+pub codes-most : (s : List ℕ) (v frame : ℕ) → length (codesAt s 0 v frame .listed) ≤ slotCount s
+unfolding codesAt
+codes-most s v frame = omega (arith, from-most s v frame (slotCount s - 0) 0)
+
+-- an operation at an index
+pub record There (s : List ℕ) (at index : ℕ) : Type 0 where
+  pub operation : UnwindCode
+  pub is : Code operation ≡ codeIn s at index
+
+-- one of a list
+record Nth (cs : List UnwindCode) (n : ℕ) : Type 0 where
+  pub found : UnwindCode
+  pub is : reached.Code found ≡ nthBy whole cs n
+
+nth-below : (cs : List UnwindCode) (n : ℕ) → n < length cs → Nth cs n
+nth-below [] n h = absurd (not-suc-le-zero h)
+nth-below (c ∷ cs) zero h = record { found = c; is = refl }
+nth-below (c ∷ cs) (suc n) h = let r = nth-below cs n (le-of-suc-le-suc h) in record { found = r .found; is = r .is }
+
+nth-above : (cs : List UnwindCode) (n : ℕ) → length cs ≤ n → reached.Past ≡ nthBy whole cs n
+nth-above [] n h = refl
+nth-above (c ∷ cs) zero h = absurd (not-suc-le-zero h)
+nth-above (c ∷ cs) (suc n) h = nth-above cs n (le-of-suc-le-suc h)
+
+-- Where all codes of an info are decoded, there is one at each index below their number ..
+pub code-below : (s : List ℕ) (at : ℕ) (i : UnwindInfo) (cs : List UnwindCode) (n : ℕ) → has i cs ≡ wholeAt s at → n < length cs → There s at n
+code-below s at i cs n e h =
+    let p = whole-told s at e in
+    let r = nth-below cs n h in
+    let g : reached.Code (r .found) ≡ nthOf (codesOf s (p .header)) n = r .is ∙ ap (λ (ds : Codes). nthOf ds n) (p .codes) in
+    record { operation = r .found; is = code-here s at n (p .limited) (p .headed) refl g (p .followed) refl refl }
+
+-- .. and at any other index the answer is 10.
+pub code-above : (s : List ℕ) (at : ℕ) (i : UnwindInfo) (cs : List UnwindCode) (n : ℕ) → has i cs ≡ wholeAt s at → length cs ≤ n → Refused (refuse notFound) ≡ codeIn s at n
+code-above s at i cs n e h =
+    let p = whole-told s at e in
+    let g : reached.Past ≡ nthOf (codesOf s (p .header)) n = nth-above cs n h ∙ ap (λ (ds : Codes). nthOf ds n) (p .codes) in
+    code-past s at n (p .limited) (p .headed) refl g (p .followed) refl refl
+
+-- Two answers that meet a promise of this crate are equal.
+pub checked-info-unique : (s : List ℕ) (at : ℕ) {r q : Checked} → r ≡ checkedOf (wholeAt s at) → q ≡ checkedOf (wholeAt s at) → r ≡ q
+checked-info-unique s at = same
+
+pub code-unique : (s : List ℕ) (at index : ℕ) {r q : Coded} → r ≡ codeIn s at index → q ≡ codeIn s at index → r ≡ q
+code-unique s at index = same

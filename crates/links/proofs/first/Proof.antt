@@ -1,0 +1,18 @@
+-- `links::first` meets its contract: the file is too long, or the links are followed.
+-- Assumes nothing.
+use Rattle.links.proofs.Laws.{first-long, first-follow}
+use borrow.Author.Needs.{needs}
+use Rattle.links.proofs.first.Statement.{statement}
+use Rattle.links.proofs.first.Tie as tie
+
+returns : tie.Need-returns
+returns c = first-long _ _ _ (c .if1 .taken)
+
+follow-requires : tie.Need-follow-requires
+follow-requires c κs = search needs
+
+returns-2 : tie.Need-returns-2
+returns-2 c = first-follow _ _ _ (c .before .if1 .left) (c .follow .ensures)
+
+pub first-spec : {M : Type 1} → statement M
+first-spec = tie.close (tie.spec returns follow-requires returns-2)

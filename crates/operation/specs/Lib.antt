@@ -1,0 +1,3 @@
+-- `Operation` is the table of operations and the operation at a slot, `Answers` what each answer stands for.
+pub mod Operation
+pub mod Answers

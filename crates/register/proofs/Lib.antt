@@ -1,0 +1,3 @@
+-- `Theorems` is what a reader comes for; `Cases` computes names.
+pub mod Theorems
+mod Cases

@@ -1,0 +1,2 @@
+-- `Names` has the name of each register.
+pub mod Names
