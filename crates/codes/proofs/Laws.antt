@@ -20,7 +20,7 @@ use Rattle.operation.specs.declared.TakenCode.{TakenCode}
 use Rattle.operation.specs.declared.NextCode.{NextCode}
 use Rattle.operation.specs.declared.NextCode.the-variants as next
 use Rattle.operation.proofs.Laws.{code-within}
-use Rattle.unwind.specs.Unwind.{headerAt, followsAt, infoOf, onHeader, onFollows}
+use Rattle.unwind.specs.Unwind.{headerAt, followsAt, infoOf, onHeader, onFollows, infoAt}
 use Rattle.unwind.specs.declared.UnwindHeader.{UnwindHeader}
 use Rattle.unwind.specs.declared.UnwindInfo.{UnwindInfo}
 use Rattle.unwind.specs.declared.Follows.{Follows}
@@ -28,11 +28,14 @@ use Rattle.unwind.specs.declared.Head.{Head}
 use Rattle.unwind.specs.declared.Head.the-variants as head
 use Rattle.unwind.specs.declared.Followed.{Followed}
 use Rattle.unwind.specs.declared.Followed.the-variants as followed
+use Rattle.unwind.specs.declared.Parsed.the-variants as parsed
+use Rattle.unwind.proofs.Laws.{info-whole}
 use Rattle.codes.specs.Codes.{End, whole, stopped, Codes, finished, refusedHere, preceded, onCode, codesFrom, codesAt, slotsOf, codesOf, countBy, countOf, pastBy, nthBy, nthOf, Whole, has, refusedWhole, onListed, wholeAt, checkedOf, onReached, codeIn}
 use Rattle.codes.specs.declared.Counted.{Counted}
 use Rattle.codes.specs.declared.Counted.the-variants as counted
 use Rattle.codes.specs.declared.Reached.{Reached}
 use Rattle.codes.specs.declared.Reached.the-variants as reached
+use Rattle.codes.specs.declared.CheckedInfo.{CheckedInfo}
 use Rattle.codes.specs.declared.Checked.{Checked}
 use Rattle.codes.specs.declared.Checked.the-variants as checked
 use Rattle.codes.specs.declared.Coded.{Coded}
@@ -261,3 +264,31 @@ unfolding wholeAt
 whole-told s at {i} {cs} e =
     let p = told-limit _ _ e in
     told-header s at i cs (leb-true (length s) fileLimit (p .0)) (headerAt s at) refl (p .1)
+
+-- what an answer tells: the info has as many codes as it says, or it is refused
+pub record Has (w : Whole) (c : CheckedInfo) : Type 0 where
+  pub codes : List UnwindCode
+  pub is : has (c .info) codes ≡ w
+  pub many : c .codes ≡ length codes
+
+same-checked : {c d : CheckedInfo} → checked.Info c ≡ checked.Info d → c ≡ d
+same-checked e = cc
+
+same-refusal : {k j : Refusal} → checked.Refused k ≡ checked.Refused j → k ≡ j
+same-refusal e = cc
+
+pub checked-told : (w : Whole) {c : CheckedInfo} → checked.Info c ≡ checkedOf w → Has w c
+checked-told (has i cs) {c} e =
+    let f = same-checked e in
+    record { codes = cs; is = ap (λ (d : CheckedInfo). has (d .info) cs) f; many = ap (λ (d : CheckedInfo). d .codes) f }
+checked-told (refusedWhole k) e = absurd (let z : _≡_ {A = ℕ} 0 1 = cc in omega arith)
+
+pub checked-refused : (w : Whole) {k : Refusal} → checked.Refused k ≡ checkedOf w → refusedWhole k ≡ w
+checked-refused (has i cs) e = absurd (let z : _≡_ {A = ℕ} 0 1 = cc in omega arith)
+checked-refused (refusedWhole j) e = ap refusedWhole (same-refusal e)
+
+-- an info with its codes is the info
+pub whole-info : (s : List ℕ) (at : ℕ) {i : UnwindInfo} {cs : List UnwindCode} → has i cs ≡ wholeAt s at → parsed.Info i ≡ infoAt s at
+whole-info s at e =
+    let p = whole-told s at e in
+    ap parsed.Info (p .value) ∙ info-whole s at (p .limited) (p .headed) refl (p .followed) refl

@@ -3,13 +3,13 @@
 use mathlib.Core.Path.{_≡_, refl, ap, _∙_}
 use mathlib.Core.List.{List, [], _∷_}
 use mathlib.Core.Bool.{Bool, true, false}
-use Prim.Native.Nat.{ℕ, zero, suc, _+_, _-_, _≤_, _<_}
+use Prim.Native.Nat.{ℕ, zero, suc, _+_, _-_, _*_, _≤_, _<_}
 use native.Mathlib.Nat.{le-of-suc-le-suc, not-suc-le-zero}
 use native.Mathlib.Omega.{arith}
-use lib.ListN.{length}
+use lib.ListN.{length, drop, length-take, length-drop}
 use lib.Dec.{leb}
 use Rattle.answer.specs.Answer.{refuse, notFound}
-use Rattle.answer.specs.Test.{pick}
+use Rattle.answer.specs.Test.{pick, fileLimit}
 use Rattle.answer.proofs.Unique.{same}
 use Rattle.operation.specs.Operation.{slotCount, codeAt}
 use Rattle.operation.specs.declared.UnwindCode.{UnwindCode}
@@ -17,7 +17,7 @@ use Rattle.operation.specs.declared.TakenCode.{TakenCode}
 use Rattle.operation.specs.declared.NextCode.{NextCode}
 use Rattle.operation.specs.declared.NextCode.the-variants as next
 use Rattle.unwind.specs.declared.UnwindInfo.{UnwindInfo}
-use Rattle.codes.specs.Codes.{whole, Codes, finished, refusedHere, preceded, onCode, codesFrom, codesAt, nthBy, nthOf, codesOf, has, wholeAt, checkedOf, codeIn}
+use Rattle.codes.specs.Codes.{whole, Codes, finished, refusedHere, preceded, onCode, codesFrom, codesAt, slotsOf, nthBy, nthOf, codesOf, has, wholeAt, checkedOf, codeIn}
 use Rattle.codes.specs.declared.Reached.the-variants as reached
 use Rattle.codes.specs.declared.Checked.{Checked}
 use Rattle.codes.specs.declared.Coded.{Coded}
@@ -48,6 +48,16 @@ module _ (s : List ℕ) (v frame : ℕ) where
 pub codes-most : (s : List ℕ) (v frame : ℕ) → length (codesAt s 0 v frame .listed) ≤ slotCount s
 unfolding codesAt
 codes-most s v frame = omega (arith, from-most s v frame (slotCount s - 0) 0)
+
+-- An info has no more codes than the file has slots.
+pub whole-most : (s : List ℕ) (at : ℕ) (i : UnwindInfo) (cs : List UnwindCode) → has i cs ≡ wholeAt s at → (2 * length cs ≤ length s) × (length s ≤ fileLimit)
+unfolding codesOf
+whole-most s at i cs e =
+    let p = whole-told s at e in
+    let h = p .header in
+    let m = codes-most (slotsOf s h) (h .version) (h .«frame_register» .0) in
+    let f : length cs ≡ length (codesAt (slotsOf s h) 0 (h .version) (h .«frame_register» .0) .listed) = ap (λ (ds : Codes). length (ds .listed)) (p .codes) in
+    (omega (arith, length-take (2 * h .«count_of_codes») (drop (h .«code_start») s), length-drop (h .«code_start») s), p .limited)
 
 -- an operation at an index
 pub record There (s : List ℕ) (at index : ℕ) : Type 0 where
