@@ -1,7 +1,7 @@
 -- The definitions on small inputs, by computation: document 01's cases among them.
 -- Assumes nothing.
 use mathlib.Core.Path.{_≡_, refl}
-use mathlib.Core.List.{List, [], _∷_}
+use mathlib.Core.List.{[], _∷_}
 use Prim.Native.Nat.{ℕ}
 use Rattle.answer.specs.Answer.{refuse, short, operation, notFound, cut}
 use Rattle.answer.specs.Test.{must}

@@ -1,11 +1,10 @@
 -- The laws of the codes of an unwind info: what the proofs of this crate and of its callers cite.
 -- Assumes nothing.
 use mathlib.Core.Path.{_≡_, refl, sym, ap, _∙_}
-use mathlib.Core.List.{List, [], _∷_}
+use mathlib.Core.List.{List}
 use mathlib.Core.Bool.{Bool, true, false}
 use mathlib.Core.Logic.{⊎-elim}
 use Prim.Native.Nat.{ℕ, zero, suc, _+_, _-_, _*_, _≤_, _<_}
-use native.Mathlib.Nat.{not-suc-le-zero}
 use native.Mathlib.Omega.{arith}
 use lib.ListN.{length, take, drop}
 use borrow.Author.Tests.{le-leb, lt-leb, leb-true}
@@ -14,7 +13,7 @@ use Rattle.answer.specs.Test.{must, fileLimit}
 use Rattle.answer.specs.declared.Refusal.{Refusal}
 use Rattle.answer.proofs.Laws.{must-on, must-off}
 use Rattle.fields.proofs.Laws.{le-or-lt}
-use Rattle.operation.specs.Operation.{slotCount, codeAt}
+use Rattle.operation.specs.Operation.{knownVersion, slotCount, codeAt}
 use Rattle.operation.specs.declared.UnwindCode.{UnwindCode}
 use Rattle.operation.specs.declared.TakenCode.{TakenCode}
 use Rattle.operation.specs.declared.NextCode.{NextCode}
@@ -29,16 +28,14 @@ use Rattle.unwind.specs.declared.Head.the-variants as head
 use Rattle.unwind.specs.declared.Followed.{Followed}
 use Rattle.unwind.specs.declared.Followed.the-variants as followed
 use Rattle.unwind.specs.declared.Parsed.the-variants as parsed
-use Rattle.unwind.proofs.Laws.{info-whole}
-use Rattle.codes.specs.Codes.{End, whole, stopped, Codes, finished, refusedHere, preceded, onCode, codesFrom, codesAt, slotsOf, codesOf, countBy, countOf, pastBy, nthBy, nthOf, Whole, has, refusedWhole, onListed, wholeAt, checkedOf, onReached, codeIn}
+use Rattle.unwind.proofs.Laws.{header-told, header-start, info-whole}
+use Rattle.codes.specs.Codes.{End, whole, stopped, Codes, finished, refusedHere, preceded, onCode, codesFrom, codesAt, slotsOf, codesOf, countBy, countOf, nthOf, Whole, has, refusedWhole, onListed, wholeAt, checkedOf, codeIn}
 use Rattle.codes.specs.declared.Counted.{Counted}
 use Rattle.codes.specs.declared.Counted.the-variants as counted
 use Rattle.codes.specs.declared.Reached.{Reached}
 use Rattle.codes.specs.declared.Reached.the-variants as reached
 use Rattle.codes.specs.declared.CheckedInfo.{CheckedInfo}
-use Rattle.codes.specs.declared.Checked.{Checked}
 use Rattle.codes.specs.declared.Checked.the-variants as checked
-use Rattle.codes.specs.declared.Coded.{Coded}
 use Rattle.codes.specs.declared.Coded.the-variants.{Code, Refused}
 
 -- A turn of the walk over slots.
@@ -292,3 +289,21 @@ pub whole-info : (s : List ℕ) (at : ℕ) {i : UnwindInfo} {cs : List UnwindCod
 whole-info s at e =
     let p = whole-told s at e in
     ap parsed.Info (p .value) ∙ info-whole s at (p .limited) (p .headed) refl (p .followed) refl
+
+-- where the slots of an info with its codes are: what walking them again needs
+pub record Slots (s : List ℕ) (i : UnwindInfo) (cs : List UnwindCode) : Type 0 where
+  pub known : knownVersion (i .version) ≡ true
+  pub inside : i .«code_start» + 2 * i .«count_of_codes» ≤ length s
+  pub codes : record { listed = cs; end = whole } ≡ codesAt (take (2 * i .«count_of_codes») (drop (i .«code_start») s)) 0 (i .version) (i .«frame_register» .0)
+
+slots-of : (s : List ℕ) (at : ℕ) (h : UnwindHeader) (f : Follows) (cs : List UnwindCode) → head.At h ≡ headerAt s at → record { listed = cs; end = whole } ≡ codesOf s h → Slots s (infoOf h f) cs
+unfolding codesOf
+slots-of s at h f cs e d =
+    let w = header-told s at e in
+    let p = header-start s at w in
+    record { known = w .known; inside = omega (arith, w .inside); codes = d }
+
+pub whole-slots : (s : List ℕ) (at : ℕ) {i : UnwindInfo} {cs : List UnwindCode} → has i cs ≡ wholeAt s at → Slots s i cs
+whole-slots s at {i} {cs} e =
+    let p = whole-told s at e in
+    rw (p .value) (slots-of s at (p .header) (p .follows) cs (p .headed) (p .codes))

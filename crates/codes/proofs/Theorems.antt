@@ -6,16 +6,19 @@ use mathlib.Core.Bool.{Bool, true, false}
 use Prim.Native.Nat.{ℕ, zero, suc, _+_, _-_, _*_, _≤_, _<_}
 use native.Mathlib.Nat.{le-of-suc-le-suc, not-suc-le-zero}
 use native.Mathlib.Omega.{arith}
-use lib.ListN.{length, drop, length-take, length-drop}
+use lib.ListN.{length, take, drop, length-take, length-drop}
 use lib.Dec.{leb}
 use Rattle.answer.specs.Answer.{refuse, notFound}
 use Rattle.answer.specs.Test.{pick, fileLimit}
 use Rattle.answer.proofs.Unique.{same}
+use Rattle.fields.specs.Number.{Bytes}
+use Rattle.fields.proofs.Number.{bytes-drop}
 use Rattle.operation.specs.Operation.{slotCount, codeAt}
 use Rattle.operation.specs.declared.UnwindCode.{UnwindCode}
 use Rattle.operation.specs.declared.TakenCode.{TakenCode}
 use Rattle.operation.specs.declared.NextCode.{NextCode}
 use Rattle.operation.specs.declared.NextCode.the-variants as next
+use Rattle.operation.proofs.Laws.{InRange, code-range}
 use Rattle.unwind.specs.declared.UnwindInfo.{UnwindInfo}
 use Rattle.codes.specs.Codes.{whole, Codes, finished, refusedHere, preceded, onCode, codesFrom, codesAt, slotsOf, nthBy, nthOf, codesOf, has, wholeAt, checkedOf, codeIn}
 use Rattle.codes.specs.declared.Reached.the-variants as reached
@@ -58,6 +61,41 @@ whole-most s at i cs e =
     let m = codes-most (slotsOf s h) (h .version) (h .«frame_register» .0) in
     let f : length cs ≡ length (codesAt (slotsOf s h) 0 (h .version) (h .«frame_register» .0) .listed) = ap (λ (ds : Codes). length (ds .listed)) (p .codes) in
     (omega (arith, length-take (2 * h .«count_of_codes») (drop (h .«code_start») s), length-drop (h .«code_start») s), p .limited)
+
+-- each register of the operations has its number
+abbrev pub AllInRange : List UnwindCode → Type 0
+AllInRange [] = Unit
+AllInRange (c ∷ cs) = InRange (c .operation) × AllInRange cs
+
+module _ (s : List ℕ) (v frame : ℕ) (b : Bytes s) where
+  range-turn : (n at : ℕ) (x : NextCode) → x ≡ codeAt s at v frame → ((t : TakenCode) → AllInRange (codesFrom n s (t .next) v frame .listed)) → AllInRange (onCode x refusedHere (λ t. preceded (t .code) (codesFrom n s (t .next) v frame)) .listed)
+  range-turn n at (next.Value t) e f = (code-range s at v frame b e, f t)
+  range-turn n at (next.Refused k) e f = tt
+
+  range-test : (test : Bool) (x : Codes) → AllInRange (x .listed) → AllInRange (pick test finished x .listed)
+  range-test true x h = tt
+  range-test false x h = h
+
+  from-range : (n at : ℕ) → AllInRange (codesFrom n s at v frame .listed)
+  unfolding codesFrom
+  from-range zero at = tt
+  from-range (suc n) at =
+      range-test (leb (slotCount s) at) (onCode (codeAt s at v frame) refusedHere (λ t. preceded (t .code) (codesFrom n s (t .next) v frame))) (range-turn n at (codeAt s at v frame) refl (λ t. from-range n (t .next)))
+
+bytes-take : (n : ℕ) (s : List ℕ) → Bytes s → Bytes (take n s)
+bytes-take zero s h = tt
+bytes-take (suc n) [] h = tt
+bytes-take (suc n) (x ∷ s) h = (h .0, bytes-take n s (h .1))
+
+-- Of a file of bytes, each register of an info's codes has its number.
+pub whole-registers : (s : List ℕ) (at : ℕ) (i : UnwindInfo) (cs : List UnwindCode) → Bytes s → has i cs ≡ wholeAt s at → AllInRange cs
+unfolding codesOf codesAt
+whole-registers s at i cs b e =
+    let p = whole-told s at e in
+    let h = p .header in
+    let f = ap (λ (ds : Codes). ds .listed) (p .codes) in
+    let l = bytes-take (2 * h .«count_of_codes») (drop (h .«code_start») s) (bytes-drop (h .«code_start») s b) in
+    rw f (from-range (slotsOf s h) (h .version) (h .«frame_register» .0) l (slotCount (slotsOf s h) - 0) 0)
 
 -- an operation at an index
 pub record There (s : List ℕ) (at index : ℕ) : Type 0 where

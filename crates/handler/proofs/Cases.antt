@@ -1,7 +1,7 @@
 -- The definitions on small inputs, by computation.
 -- Assumes nothing.
 use mathlib.Core.Path.{_≡_, refl}
-use mathlib.Core.List.{List, [], _∷_, _++_}
+use mathlib.Core.List.{List, [], _∷_}
 use Prim.Native.Nat.{ℕ}
 use lib.ListN.{take}
 use Rattle.answer.specs.Answer.{refuse, short, contradiction, version, notFound, cut}

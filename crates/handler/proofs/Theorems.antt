@@ -1,6 +1,6 @@
 -- What is proved of the scope table of an unwind info, for every input. That a function answers its definition is its contract (src/lib.rt).
 -- Assumes nothing.
-use mathlib.Core.Path.{_≡_, refl, sym, _∙_}
+use mathlib.Core.Path.{_≡_, refl}
 use mathlib.Core.List.{List}
 use Prim.Native.Nat.{ℕ, _+_}
 use lib.ListN.{length}

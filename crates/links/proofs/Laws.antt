@@ -1,8 +1,8 @@
 -- The laws of links, one for each outcome: what the proofs of this crate and of its callers cite.
 -- Assumes nothing.
-use mathlib.Core.Path.{_≡_, refl, sym, ap, _∙_}
+use mathlib.Core.Path.{_≡_, refl, _∙_}
 use mathlib.Core.List.{List}
-use Prim.Native.Nat.{ℕ, zero, suc, _+_, _-_, _%_, _≤_, _<_}
+use Prim.Native.Nat.{ℕ, zero, suc, _-_, _%_, _≤_, _<_}
 use native.Mathlib.Omega.{arith}
 use lib.ListN.{length}
 use borrow.Author.Tests.{le-leb, lt-leb, lt-ltb, le-ltb, eq-eqb, ne-eqb}
@@ -19,7 +19,6 @@ use Rattle.mapping.specs.declared.Mapped.the-variants as mapped
 use Rattle.unwind.specs.Unwind.{infoAt}
 use Rattle.unwind.specs.declared.UnwindInfo.{UnwindInfo}
 use Rattle.unwind.specs.declared.HandlerKind.{HandlerKind}
-use Rattle.unwind.specs.declared.Follows.{Follows}
 use Rattle.unwind.specs.declared.Follows.the-variants.{Nothing, Chained, Handler}
 use Rattle.unwind.specs.declared.Parsed.{Parsed}
 use Rattle.unwind.specs.declared.Parsed.the-variants as parsed
@@ -28,7 +27,6 @@ use Rattle.links.specs.declared.Sections.{Sections}
 use Rattle.links.specs.declared.Reached.{Reached}
 use Rattle.links.specs.declared.Reach.{Reach}
 use Rattle.links.specs.declared.Reach.the-variants as reach
-use Rattle.links.specs.declared.NextInfo.{NextInfo}
 use Rattle.links.specs.declared.NextInfo.the-variants.{Info, End, Refused}
 
 -- the record at an address

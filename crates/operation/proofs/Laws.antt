@@ -1,14 +1,15 @@
 -- The laws of an operation in its slots: what the proofs of this crate and of its callers cite.
 -- Assumes nothing.
-use mathlib.Core.Path.{_≡_, refl, sym, ap, _∙_}
+use mathlib.Core.Path.{_≡_, refl, ap}
 use mathlib.Core.List.{List, [], _∷_}
 use mathlib.Core.Bool.{Bool, true, false}
 use Prim.Native.Nat.{ℕ, zero, suc, _+_, _*_, _/_, _%_, _≤_, _<_}
 use native.Mathlib.Omega.{arith}
 use lib.ListN.{length, getD}
+use lib.Dec.{eqb}
 use borrow.Author.Tests.{le-leb, lt-leb, leb-true}
-use Rattle.answer.specs.Answer.{refuse, short, version, operation}
-use Rattle.answer.specs.Test.{must}
+use Rattle.answer.specs.Answer.{refuse, short, version}
+use Rattle.answer.specs.Test.{pick, must}
 use Rattle.answer.specs.declared.Refusal.{Refusal}
 use Rattle.answer.proofs.Laws.{must-on, must-off}
 use Rattle.fields.specs.Number.{numberAt, Bytes}
@@ -16,9 +17,10 @@ use Rattle.fields.proofs.Number.{number-one, number-joined}
 use Rattle.layout.specs.Layout.{numbersAt}
 use Rattle.operation.specs.Operation.{knownVersion, formOf, scaleOf, operationOf, offsetAt, opAt, infoAt, slotCount, taken, inTwo, inThree, byForm, codeAt}
 use Rattle.operation.specs.declared.UnwindOperation.{UnwindOperation}
-use Rattle.operation.specs.declared.UnwindCode.{UnwindCode}
+use Rattle.operation.specs.declared.UnwindOperation.the-variants.{PushNonVolatile, Alloc, SetFPRegister, SaveNonVolatile, SaveXMM, Epilog, SaveXMM128, PushMachineFrame, Noop}
 use Rattle.operation.specs.declared.TakenCode.{TakenCode}
 use Rattle.operation.specs.declared.Kind.{Kind}
+use Rattle.operation.specs.declared.Kind.the-variants as kind
 use Rattle.operation.specs.declared.Form.{Form}
 use Rattle.operation.specs.declared.Form.the-variants.{One, Two, Three, Unknown}
 use Rattle.operation.specs.declared.NextCode.{NextCode}
@@ -108,7 +110,7 @@ code-within s at v frame e =
     let q = told _ _ _ (p .1) in
     within-form s at (offsetAt s at) frame (formOf v (offsetAt s at) (opAt s at) (infoAt s at)) (leb-true (at + 1) (slotCount s) (q .0)) (q .1)
 
-byte-below : (s : List ℕ) (i : ℕ) → Bytes s → getD s i 0 < 256
+pub byte-below : (s : List ℕ) (i : ℕ) → Bytes s → getD s i 0 < 256
 byte-below [] i b = omega arith
 byte-below (x ∷ s) zero b = b .0
 byte-below (x ∷ s) (suc i) b = byte-below s i (b .1)
@@ -118,3 +120,75 @@ pub half-below : (s : List ℕ) (i : ℕ) → Bytes s → i + 2 ≤ length s →
 half-below s i b h =
     omega
     (arith, number-joined false 1 s i h, number-one false s i (omega arith), number-one false s (i + 1) (omega arith), byte-below s i b, byte-below s (i + 1) b)
+
+-- the registers of an operation have their numbers: below 16 for a general one, 17 to 32 for an XMM register
+abbrev pub InRange : UnwindOperation → Type 0
+InRange (PushNonVolatile r) = r .0 < 16
+InRange (Alloc n) = Unit
+InRange SetFPRegister = Unit
+InRange (SaveNonVolatile r o) = r .0 < 16
+InRange (SaveXMM r o) = (17 ≤ r .0) × (r .0 < 33)
+InRange (Epilog a b) = Unit
+InRange (SaveXMM128 r o) = (17 ≤ r .0) × (r .0 < 33)
+InRange (PushMachineFrame e) = Unit
+InRange Noop = Unit
+
+abbrev KindInRange : Kind → Type 0
+KindInRange kind.Alloc = Unit
+KindInRange (kind.SaveNonVolatile r) = r .0 < 16
+KindInRange (kind.SaveXMM r) = (17 ≤ r .0) × (r .0 < 33)
+KindInRange (kind.SaveXMM128 r) = (17 ≤ r .0) × (r .0 < 33)
+KindInRange kind.Noop = Unit
+
+abbrev FormInRange : Form → Type 0
+FormInRange (One o) = InRange o
+FormInRange (Two k) = KindInRange k
+FormInRange (Three k) = KindInRange k
+FormInRange Unknown = Unit
+
+range-pick : (b : Bool) (f g : Form) → FormInRange f → FormInRange g → FormInRange (pick b f g)
+range-pick true f g h k = h
+range-pick false f g h k = k
+
+form-range : (v offset op info : ℕ) → info < 16 → FormInRange (formOf v offset op info)
+unfolding formOf
+form-range v offset op info h =
+    let x : (17 ≤ 17 + info) × (17 + info < 33) = (omega arith, omega arith) in
+    range-pick (eqb op 0) _ _ h
+    (range-pick (eqb op 1) _ _ (range-pick (eqb info 0) _ _ tt (range-pick (eqb info 1) _ _ tt tt))
+    (range-pick (eqb op 2) _ _ tt
+    (range-pick (eqb op 3) _ _ tt
+    (range-pick (eqb op 4) _ _ h
+    (range-pick (eqb op 5) _ _ h
+    (range-pick (eqb op 6) _ _ (range-pick (eqb v 1) _ _ x tt)
+    (range-pick (eqb op 7) _ _ (range-pick (eqb v 1) _ _ x tt)
+    (range-pick (eqb op 8) _ _ x
+    (range-pick (eqb op 9) _ _ x
+    (range-pick (eqb op 10) _ _ (range-pick (eqb info 0) _ _ tt (range-pick (eqb info 1) _ _ tt tt)) tt))))))))))
+
+kind-range : (frame n : ℕ) (k : Kind) → KindInRange k → InRange (operationOf frame k n)
+kind-range frame n kind.Alloc h = tt
+kind-range frame n (kind.SaveNonVolatile r) h = h
+kind-range frame n (kind.SaveXMM r) h = h
+kind-range frame n (kind.SaveXMM128 r) h = h
+kind-range frame n kind.Noop h = tt
+
+taken-range : {t : TakenCode} (offset : ℕ) (o : UnwindOperation) (next : ℕ) → Value t ≡ taken offset o next → InRange o → InRange (t .code .operation)
+taken-range offset o next e h = rw (same-taken e) h
+
+module _ (s : List ℕ) (at offset frame : ℕ) {t : TakenCode} where
+  range-form : (f : Form) → FormInRange f → Value t ≡ byForm f s at offset frame → InRange (t .code .operation)
+  unfolding inTwo inThree
+  range-form (One o) h e = taken-range offset o (at + 1) e h
+  range-form (Two k) h e = taken-range offset _ (at + 2) (told _ _ _ e .1) (kind-range frame _ k h)
+  range-form (Three k) h e = taken-range offset _ (at + 3) (told _ _ _ e .1) (kind-range frame _ k h)
+  range-form Unknown h e = absurd (never e)
+
+pub code-range : (s : List ℕ) (at v frame : ℕ) {t : TakenCode} → Bytes s → Value t ≡ codeAt s at v frame → InRange (t .code .operation)
+unfolding codeAt numbersAt
+code-range s at v frame b e =
+    let p = told _ _ _ e in
+    let q = told _ _ _ (p .1) in
+    let l : at + 1 ≤ slotCount s = leb-true (at + 1) (slotCount s) (q .0) in
+    let n : infoAt s at < 16 = omega (arith, number-one false s (2 * at + 1) (omega arith), byte-below s (2 * at + 1) b) in
+    range-form s at (offsetAt s at) frame (formOf v (offsetAt s at) (opAt s at) (infoAt s at)) (form-range v (offsetAt s at) (opAt s at) (infoAt s at) n) (q .1)

@@ -18,7 +18,7 @@ use Rattle.operation.specs.declared.Form.the-variants.{Two}
 use Rattle.operation.specs.declared.TakenCode.{TakenCode}
 use Rattle.operation.specs.declared.NextCode.{NextCode}
 use Rattle.operation.specs.declared.NextCode.the-variants.{Value, Refused}
-use Rattle.operation.proofs.Laws.{two-taken, code-passed, code-formed, code-within, half-below}
+use Rattle.operation.proofs.Laws.{two-taken, code-passed, code-formed, code-within, half-below, InRange, code-range}
 
 -- Each field of the slot stands where the one before it ends.
 pub fields-placed : T (placed 0 fields)
@@ -31,6 +31,10 @@ code-inside s at v frame t e = let w = code-within s at v frame e in (w .first, 
 -- "An operation whose slots pass the count is 1.", of the first slot
 pub code-past : (s : List ℕ) (at v frame : ℕ) → knownVersion v ≡ true → slotCount s ≤ at → Refused (refuse short) ≡ codeAt s at v frame
 code-past s at v frame e h = code-passed s at v frame e h refl
+
+-- The registers of an operation have their numbers: below 16, and 17 to 32 for XMM.
+pub code-registers : (s : List ℕ) (at v frame : ℕ) (t : TakenCode) → Bytes s → Value t ≡ codeAt s at v frame → InRange (t .code .operation)
+code-registers s at v frame t b e = code-range s at v frame b e
 
 -- "Op 1, info 0" is an allocation of the next number times 8 ..
 pub alloc-large : (s : List ℕ) (at v frame : ℕ) → knownVersion v ≡ true → at + 2 ≤ slotCount s → getD s (2 * at + 1) 0 ≡ 1 → taken (getD s (2 * at) 0) (Alloc (8 * numberAt false 2 s (2 * at + 2))) (at + 2) ≡ codeAt s at v frame

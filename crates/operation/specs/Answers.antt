@@ -1,7 +1,6 @@
 -- What each answer of this crate stands for. An operation is a number for its kind, in the order of `UnwindOperation`, and its data.
 -- Assumes nothing.
 use mathlib.Core.List.{List, [], _∷_}
-use mathlib.Core.Bool.{Bool}
 use Prim.Native.Nat.{ℕ}
 use Rattle.answer.specs.Answer.{Answer, accepted, refused}
 use Rattle.answer.specs.Test.{pick}

@@ -60,7 +60,7 @@ formOf v offset op info =
     -- "11-15 | | 7"
     Unknown))))))))))
 
--- what a number of 16 bits is multiplied with; a number of 32 bits stands as it is
+-- what a number of 16 bits is multiplied with, 16 for op 6 of version 1 as in exception.rs; a number of 32 bits stands as it is
 abbrev pub scaleOf : Kind → ℕ
 scaleOf kind.Alloc = 8
 scaleOf (kind.SaveNonVolatile r) = 8

@@ -23,7 +23,6 @@ use Rattle.unwind.specs.declared.Follows.the-variants.{Nothing, Handler}
 use Rattle.unwind.specs.declared.Head.{Head}
 use Rattle.unwind.specs.declared.Head.the-variants as head
 use Rattle.unwind.specs.declared.Followed.{Followed}
-use Rattle.unwind.specs.declared.Followed.the-variants as followed
 use Rattle.unwind.specs.declared.Parsed.{Parsed}
 use Rattle.unwind.specs.declared.Parsed.the-variants.{Info}
 use Rattle.unwind.proofs.Laws.{header-told, header-start, handler-there, follows-chained, follows-exception, follows-nothing, info-whole}

@@ -13,7 +13,6 @@ use Rattle.answer.specs.declared.Refusal.{Refusal}
 use Rattle.fields.specs.Field.{fieldOf}
 use Rattle.layout.specs.Layout.{Field, field, widths, place, readBy}
 use Rattle.runtime.specs.Runtime.{foundAt}
-use Rattle.runtime.specs.declared.RuntimeFunction.{RuntimeFunction}
 use Rattle.runtime.specs.declared.Found.{Found}
 use Rattle.runtime.specs.declared.Found.the-variants as found
 use Rattle.operation.specs.Operation.{knownVersion, general}

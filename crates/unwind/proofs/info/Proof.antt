@@ -2,7 +2,6 @@
 -- Assumes nothing.
 use mathlib.Core.Path.{ap, _∙_}
 use Rattle.unwind.proofs.Laws.{info-long, info-refused, info-cut, info-whole}
-use Rattle.unwind.specs.declared.UnwindInfo.{UnwindInfo}
 use Rattle.unwind.specs.declared.Parsed.the-variants.{Info}
 use borrow.Author.Needs.{needs}
 use Rattle.unwind.proofs.info.Statement.{statement}
