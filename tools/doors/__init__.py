@@ -1,4 +1,6 @@
-"""The families of doors that tools/differential compares: each a module with NAME, DOORS, RULES and requests(rng, count)."""
-from . import exception, fat, ground, pe, symver, unwind
+"""The families of doors that tools/differential compares: each a module with NAME, DOORS, RULES, the requests that are
+always made, `always(rng)`, and mostly `expected(line)`, document 01's answer, `one(rng)`, a request at random, and `every()`, every value of
+something."""
+from . import exception, fat, ground, links, pe, smallest, symver, unwind
 
-FAMILIES = [ground, fat, pe, exception, unwind, symver]
+FAMILIES = [ground, fat, pe, exception, unwind, links, symver, smallest]

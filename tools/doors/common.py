@@ -1,8 +1,24 @@
-"""What makers of requests share."""
+"""What the families share: requests taken apart, answers put together, and numbers and bytes to ask with."""
+import struct
 
 
 def hexed(data):
     return 'x' + bytes(data).hex()
+
+
+def taken(line):
+    """A request's door, its numbers and its bytes."""
+    words = line.split(' ')
+    return words[0], [int(w) for w in words[1:-1]], bytes.fromhex(words[-1][1:])
+
+
+def joined(*numbers):
+    return 'ok ' + ' '.join(map(str, numbers))
+
+
+def words_at(data, at, n):
+    """n words of 32 bits, or None where they are not all there."""
+    return struct.unpack_from(f'<{n}I', data, at) if at + 4 * n <= len(data) else None
 
 
 def noise(rng, n):

@@ -2,23 +2,10 @@
 import struct
 
 from . import pe
-from .common import around, hexed, noise
+from .common import around, hexed, joined, noise, taken, words_at
 
 NAME = 'exception'
 DOORS = ['exceptions', 'record', 'lookup', 'lookup_reads', 'lookup_checked', 'table_check']
-
-
-def taken(line):
-    words = line.split(' ')
-    return words[0], [int(w) for w in words[1:-1]], bytes.fromhex(words[-1][1:])
-
-
-def words_at(data, at, n):
-    return struct.unpack_from(f'<{n}I', data, at) if at + 4 * n <= len(data) else None
-
-
-def joined(*numbers):
-    return 'ok ' + ' '.join(map(str, numbers))
 
 
 # Document 01's answers.
@@ -164,7 +151,7 @@ def image(rng):
     return data
 
 
-def exhaustive():
+def always(rng):
     """A table of three records at every address around its borders, cut at every length, and every count around its own."""
     three = struct.pack('<9I', 10, 20, 1, 20, 30, 2, 35, 40, 3)
     for n in range(len(three) + 1):
@@ -182,23 +169,19 @@ def exhaustive():
             yield f'record {table} {count} 1 {hexed(three)}'
 
 
-def requests(rng, count):
-    made = list(exhaustive())
-    yield from made
-    for _ in range(max(count - len(made), 0)):
-        door = rng.choice(['lookup'] * 4 + ['lookup_reads', 'lookup_checked', 'table_check', 'record'] + ['exceptions'] * 4)
-        if door == 'exceptions':
-            yield f'exceptions {hexed(image(rng))}'
-            continue
-        n = rng.choice([0, 1, 1, 2, 3, 4, 5, 7, 8, 16, 33])
-        rows, top = table_of(rng, n, rng.random() < 0.7)
-        front = noise(rng, rng.choice([0, 0, 4, 5]))
-        data = front + rows
-        if rng.random() < 0.1:
-            data = data[:rng.randrange(len(data) + 1)]
-        table = len(front) if rng.random() < 0.95 else around(rng, 0, len(data), 2 ** 64 - 1)
-        number = n if rng.random() < 0.9 else around(rng, n, 357913941)
-        last = rng.randrange(top + 5) if rng.random() < 0.9 else rng.getrandbits(32)
-        if door == 'record':
-            last = around(rng, 0, n)
-        yield f'{door} {table} {number}{"" if door == "table_check" else f" {last}"} {hexed(data)}'
+def one(rng):
+    door = rng.choice(['lookup'] * 4 + ['lookup_reads', 'lookup_checked', 'table_check', 'record'] + ['exceptions'] * 4)
+    if door == 'exceptions':
+        return f'exceptions {hexed(image(rng))}'
+    n = rng.choice([0, 1, 1, 2, 3, 4, 5, 7, 8, 16, 33])
+    rows, top = table_of(rng, n, rng.random() < 0.7)
+    front = noise(rng, rng.choice([0, 0, 4, 5]))
+    data = front + rows
+    if rng.random() < 0.1:
+        data = data[:rng.randrange(len(data) + 1)]
+    table = len(front) if rng.random() < 0.95 else around(rng, 0, len(data), 2 ** 64 - 1)
+    number = n if rng.random() < 0.9 else around(rng, n, 357913941)
+    last = rng.randrange(top + 5) if rng.random() < 0.9 else rng.getrandbits(32)
+    if door == 'record':
+        last = around(rng, 0, n)
+    return f'{door} {table} {number}{"" if door == "table_check" else f" {last}"} {hexed(data)}'

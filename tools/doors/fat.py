@@ -101,7 +101,7 @@ def good(rng, count, room):
     return header(count) + table + noise(rng, room)
 
 
-def exhaustive():
+def always(rng):
     """A file of two members cut at every length; every count around the limit; ends around the file's."""
     two = header(2) + struct.pack('>IIIII', 7, 3, 48, 4, 2) + struct.pack('>IIIII', 0x01000007, 0x80000003, 52, 4, 3) + bytes(range(8))
     for n in range(len(two) + 1):
@@ -120,18 +120,15 @@ def exhaustive():
                     yield line
 
 
-def requests(rng, count):
-    made = list(exhaustive())
-    yield from made
-    for _ in range(max(count - len(made), 0)):
-        data = bytearray(good(rng, rng.choice([0, 1, 2, 3, 5, 31, 32]), rng.choice([0, 1, 8, 30])))
-        for _ in range(rng.choice([0, 0, 1, 1, 2, 4])):
-            data[rng.randrange(len(data))] = rng.getrandbits(8)
-        if rng.random() < 0.2:
-            at = rng.randrange(0, len(data) - 3)
-            struct.pack_into('>I', data, at, around(rng, len(data), 0, 2 ** 32 - 3) % 2 ** 32)
-        if rng.random() < 0.2:
-            data = data[:rng.randrange(len(data) + 1)]
-        door = rng.choice(DOORS)
-        index = '' if door == 'fat' else f' {around(rng, 0, 2, 31)}'
-        yield f'{door}{index} {hexed(data)}'
+def one(rng):
+    data = bytearray(good(rng, rng.choice([0, 1, 2, 3, 5, 31, 32]), rng.choice([0, 1, 8, 30])))
+    for _ in range(rng.choice([0, 0, 1, 1, 2, 4])):
+        data[rng.randrange(len(data))] = rng.getrandbits(8)
+    if rng.random() < 0.2:
+        at = rng.randrange(0, len(data) - 3)
+        struct.pack_into('>I', data, at, around(rng, len(data), 0, 2 ** 32 - 3) % 2 ** 32)
+    if rng.random() < 0.2:
+        data = data[:rng.randrange(len(data) + 1)]
+    door = rng.choice(DOORS)
+    index = '' if door == 'fat' else f' {around(rng, 0, 2, 31)}'
+    return f'{door}{index} {hexed(data)}'

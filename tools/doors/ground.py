@@ -19,7 +19,7 @@ RULES = [
 ]
 
 
-def exhaustive():
+def always(rng):
     """Every offset up to one past each length up to 13, in both orders, for every width."""
     for n in range(14):
         data = hexed(range(1, n + 1))
@@ -36,18 +36,15 @@ def exhaustive():
                     yield f'put{bits} {order} {at} {2 ** int(bits) - 2} {data}'
 
 
-def requests(rng, count):
-    made = list(exhaustive())
-    yield from made
-    for _ in range(max(count - len(made), 0)):
-        door = rng.choice(DOORS)
-        data = noise(rng, rng.choice([0, 1, 2, 3, 7, 8, 9, 12, 15, 16, 40]))
-        width = 12 if door.startswith('runtime') else WIDTH[door.lstrip('abcdefghijklmnopqrstuvwxyz')]
-        at = around(rng, 0, len(data), max(len(data) - width, 0), 2 ** 64 - 1, 2 ** 32)
-        order = '' if width in (1, 12) else rng.choice(['le ', 'be '])
-        numbers = ''
-        if door.startswith('put'):
-            numbers = f' {rng.getrandbits(8 * width)}'
-        if door == 'runtime_put':
-            numbers = ''.join(f' {rng.getrandbits(32)}' for _ in range(3))
-        yield f'{door} {order}{at}{numbers} {hexed(data)}'
+def one(rng):
+    door = rng.choice(DOORS)
+    data = noise(rng, rng.choice([0, 1, 2, 3, 7, 8, 9, 12, 15, 16, 40]))
+    width = 12 if door.startswith('runtime') else WIDTH[door.lstrip('abcdefghijklmnopqrstuvwxyz')]
+    at = around(rng, 0, len(data), max(len(data) - width, 0), 2 ** 64 - 1, 2 ** 32)
+    order = '' if width in (1, 12) else rng.choice(['le ', 'be '])
+    numbers = ''
+    if door.startswith('put'):
+        numbers = f' {rng.getrandbits(8 * width)}'
+    if door == 'runtime_put':
+        numbers = ''.join(f' {rng.getrandbits(32)}' for _ in range(3))
+    return f'{door} {order}{at}{numbers} {hexed(data)}'

@@ -1,15 +1,11 @@
 """PE headers, sections and mapping, against the parts of goblin's `pe`."""
 import struct
 
-from .common import around, hexed, noise
+from .common import around, hexed, noise, taken
 
 NAME = 'image'
+LIMIT = 96
 DOORS = ['dos', 'dos_put', 'coff', 'optional', 'pe', 'section', 'find_offset']
-
-
-def taken(line):
-    words = line.split(' ')
-    return words[0], [int(w) for w in words[1:-1]], bytes.fromhex(words[-1][1:])
 
 
 def row(data, at):
@@ -34,7 +30,7 @@ def readable(fields, alignment):
 
 def mapped(data, table, count, alignment, address):
     """Document 01's answer, and the rows that were looked at."""
-    if count > 96:
+    if count > LIMIT:
         return 'no 3', []
     if alignment == 0 or alignment & (alignment - 1):
         return 'no 5', []
@@ -50,7 +46,7 @@ def mapped(data, table, count, alignment, address):
 
 
 def section(data, table, count, index):
-    if count > 96:
+    if count > LIMIT:
         return 'no 3', []
     if index >= count:
         return 'no 10', []
@@ -89,7 +85,7 @@ def dos_put(data, signature, at, from_):
 def coff(data, at):
     if at + 4 > len(data):
         return 'no 1', []
-    if field(data, at + 2, 'H') > 96:
+    if field(data, at + 2, 'H') > LIMIT:
         return 'no 3', []
     if at + 20 > len(data):
         return 'no 1', []
@@ -228,8 +224,9 @@ def some_row(rng):
 ALIGNMENTS = [0, 1, 2, 3, 0x200, 0x1FF, 0x1000, 0x80000000, 0x80000001, 0xFFFFFFFF]
 
 
-def exhaustive():
-    """A table of two rows cut at every length; every alignment; addresses around each border of one section."""
+def always(rng):
+    """A table of two rows cut at every length; every alignment; addresses around each border of one section; whole images."""
+    yield from whole_images(rng)
     two = struct.pack('<8sIIIIIIHHI', b'.a', 0x1800, 0x1000, 0x600, 0x400, 1, 2, 3, 4, 5)
     two += struct.pack('<8sIIIIIIHHI', b'.b', 0, 0x1000, 0x1001, 0x410, 6, 7, 8, 9, 10)
     for n in range(len(two) + 1):
@@ -315,25 +312,20 @@ def some_header(rng):
     return f'{door} {at} {hexed(data[:140])}'
 
 
-def requests(rng, count):
-    made = list(exhaustive()) + list(whole_images(rng))
-    yield from made
-    for _ in range(max(count - len(made), 0)):
-        if rng.random() < 0.5:
-            yield some_header(rng)
-            continue
-        rows = [some_row(rng) for _ in range(rng.choice([0, 1, 1, 2, 3, 5]))]
-        front = noise(rng, rng.choice([0, 0, 3]))
-        data = front + b''.join(rows)
-        if rng.random() < 0.15:
-            data = data[:rng.randrange(len(data) + 1)]
-        table = len(front) if rng.random() < 0.9 else around(rng, 0, len(data), 2 ** 64 - 1)
-        number = len(rows) if rng.random() < 0.8 else around(rng, len(rows), 96)
-        if rng.random() < 0.3:
-            yield f'section {table} {number} {around(rng, 0, len(rows))} {hexed(data)}'
-            continue
-        address = rng.getrandbits(rng.choice([12, 14, 32, 64]))
-        if rows and rng.random() < 0.8:
-            _, virtual, start, raw, _ = row(rng.choice(rows), 0)[:5]
-            address = max(start + rng.choice([0, 1, 0x200, 0x1000, virtual, raw, up(4096, virtual), up(512, raw), up(4096, raw)]) + rng.randint(-2, 2), 0)
-        yield f'find_offset {table} {number} {rng.choice(ALIGNMENTS + [0x200] * 10)} {address} {hexed(data)}'
+def one(rng):
+    if rng.random() < 0.5:
+        return some_header(rng)
+    rows = [some_row(rng) for _ in range(rng.choice([0, 1, 1, 2, 3, 5]))]
+    front = noise(rng, rng.choice([0, 0, 3]))
+    data = front + b''.join(rows)
+    if rng.random() < 0.15:
+        data = data[:rng.randrange(len(data) + 1)]
+    table = len(front) if rng.random() < 0.9 else around(rng, 0, len(data), 2 ** 64 - 1)
+    number = len(rows) if rng.random() < 0.8 else around(rng, len(rows), 96)
+    if rng.random() < 0.3:
+        return f'section {table} {number} {around(rng, 0, len(rows))} {hexed(data)}'
+    address = rng.getrandbits(rng.choice([12, 14, 32, 64]))
+    if rows and rng.random() < 0.8:
+        _, virtual, start, raw, _ = row(rng.choice(rows), 0)[:5]
+        address = max(start + rng.choice([0, 1, 0x200, 0x1000, virtual, raw, up(4096, virtual), up(512, raw), up(4096, raw)]) + rng.randint(-2, 2), 0)
+    return f'find_offset {table} {number} {rng.choice(ALIGNMENTS + [0x200] * 10)} {address} {hexed(data)}'

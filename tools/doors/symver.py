@@ -100,7 +100,7 @@ def section(rng, order, kind):
     return data, count
 
 
-def exhaustive():
+def always(rng):
     for order in ('le', 'be'):
         for n in range(8):
             data = hexed(bytes([1, 0x80, 2, 0, 0xFF, 0x7F, 3, 4])[:n])
@@ -125,26 +125,22 @@ def exhaustive():
                 yield f'{doors[0]} {order} {start} {size} 2 9 {hexed(data)}'
 
 
-def requests(rng, count):
-    made = list(exhaustive())
-    yield from made
-    for _ in range(max(count - len(made), 0)):
-        order = rng.choice(['le', 'be'])
-        door = rng.choice(['versym', 'versym_count'] + ['verdefs', 'verdauxs', 'verneeds', 'vernauxs'] * 3)
-        front = noise(rng, rng.choice([0, 0, 3, 4]))
-        if door.startswith('versym'):
-            data = noise(rng, rng.randrange(12))
-            size = len(data) if rng.random() < 0.8 else around(rng, len(data), 2 ** 64 - 1)
-            index = f' {around(rng, 0, len(data) // 2, 2 ** 63)}' if door == 'versym' else ''
-            yield f'{door} {order} {len(front)} {size}{index} {hexed(front + data)}'
-            continue
-        kind = 'verdef' if door.startswith('verd') else 'verneed'
-        data, stated = section(rng, '<' if order == 'le' else '>', kind)
-        data = bytearray(data)
-        for _ in range(rng.choice([0, 1, 1, 2, 3])):
-            if data:
-                data[rng.randrange(len(data))] = rng.choice([0, 1, 8, 16, 20, len(data) % 256, 255, rng.getrandbits(8)])
-        size = len(data) if rng.random() < 0.8 else around(rng, len(data), 0)
-        if rng.random() < 0.3:
-            stated = around(rng, stated, stated + 3, 65535) % 2 ** 32
-        yield f'{door} {order} {len(front)} {size} {stated} {rng.choice([0, 1, 2, 3, 9])} {hexed(front + data)}'
+def one(rng):
+    order = rng.choice(['le', 'be'])
+    door = rng.choice(['versym', 'versym_count'] + ['verdefs', 'verdauxs', 'verneeds', 'vernauxs'] * 3)
+    front = noise(rng, rng.choice([0, 0, 3, 4]))
+    if door.startswith('versym'):
+        data = noise(rng, rng.randrange(12))
+        size = len(data) if rng.random() < 0.8 else around(rng, len(data), 2 ** 64 - 1)
+        index = f' {around(rng, 0, len(data) // 2, 2 ** 63)}' if door == 'versym' else ''
+        return f'{door} {order} {len(front)} {size}{index} {hexed(front + data)}'
+    kind = 'verdef' if door.startswith('verd') else 'verneed'
+    data, stated = section(rng, '<' if order == 'le' else '>', kind)
+    data = bytearray(data)
+    for _ in range(rng.choice([0, 1, 1, 2, 3])):
+        if data:
+            data[rng.randrange(len(data))] = rng.choice([0, 1, 8, 16, 20, len(data) % 256, 255, rng.getrandbits(8)])
+    size = len(data) if rng.random() < 0.8 else around(rng, len(data), 0)
+    if rng.random() < 0.3:
+        stated = around(rng, stated, stated + 3, 65535) % 2 ** 32
+    return f'{door} {order} {len(front)} {size} {stated} {rng.choice([0, 1, 2, 3, 9])} {hexed(front + data)}'

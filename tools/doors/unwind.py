@@ -1,23 +1,10 @@
 """Unwind info, operations and scope tables, against goblin's `UnwindInfo`."""
 import struct
 
-from .common import around, hexed, noise
+from .common import around, hexed, joined, noise, taken, words_at
 
 NAME = 'unwind_info'
 DOORS = ['unwind', 'codes', 'code', 'scopes', 'scope', 'scope_put']
-
-
-def taken(line):
-    words = line.split(' ')
-    return words[0], [int(w) for w in words[1:-1]], bytes.fromhex(words[-1][1:])
-
-
-def words_at(data, at, n):
-    return struct.unpack_from(f'<{n}I', data, at) if at + 4 * n <= len(data) else None
-
-
-def joined(*numbers):
-    return 'ok ' + ' '.join(map(str, numbers))
 
 
 # Document 01's answers.
@@ -181,8 +168,8 @@ RULES = [
 
 # Requests.
 
-def exhaustive():
-    """Every first byte; every slot value of one- and two-slot lists, in both versions; infos cut at every length."""
+def always(rng):
+    """Every first byte; every kind and data of a first slot, in both versions; infos cut at every length."""
     for first in range(256):
         for count in (0, 1, 2):
             yield f'unwind 0 {hexed(bytes([first, 4, count, 0x35, 4, 0x42, 0, 0]) + bytes(range(1, 21)))}'
@@ -217,23 +204,32 @@ def exhaustive():
             yield f'scope_put {at} 1 2 3 4294967295 {hexed(bytes(n))}'
 
 
-def requests(rng, count):
-    made = list(exhaustive())
-    yield from made
-    for _ in range(max(count - len(made), 0)):
-        door = rng.choice(['unwind', 'codes', 'code', 'code', 'scope'])
-        if door == 'scope':
-            n = rng.randrange(4)
-            data = struct.pack('<I', max(n + rng.choice([0, 0, 0, 1, -1]), 0)) + noise(rng, 16 * n)
-            yield f'scope {around(rng, 0, n)} {hexed(data)}'
-        else:
-            n = rng.choice([0, 1, 2, 3, 4, 5, 8, 16])
-            slots = bytes(x for _ in range(n) for x in (rng.randrange(8), rng.choice([0, 1, 0x11, 2, 3, 4, 5, 6, 7, 8, 9, 10, 0x1A]) | (rng.getrandbits(4) << 4 if rng.random() < 0.3 else 0)))
-            first = rng.choice([1, 1, 1, 2, 2, 9, 0x11, 0x19, 0x21, 0x0A, rng.getrandbits(8)])
-            data = bytes([first, rng.getrandbits(8), n, rng.choice([0, 0, 5, 0x25, rng.getrandbits(8)])]) + slots + bytes(2 * (n % 2)) + noise(rng, rng.choice([0, 4, 12, 20]))
-            if rng.random() < 0.1:
-                data = data[:rng.randrange(len(data) + 1)]
-            front = noise(rng, rng.choice([0, 0, 0, 3]))
-            at = len(front) if rng.random() < 0.97 else around(rng, 0, len(data), 2 ** 64 - 1)
-            index = f' {around(rng, 0, n)}' if door == 'code' else ''
-            yield f'{door} {at}{index} {hexed(front + data)}'
+def every():
+    """Every value of the slot of a list of one and, behind a first slot of each operation, of the second slot of a list of two."""
+    for version in (1, 2):
+        for value in range(65536):
+            yield f'code 0 0 {hexed(bytes([version, 4, 1, 0x25]) + struct.pack("<H", value))}'
+        for op in list(range(16)) + [0x11, 0x1A]:
+            for value in range(65536):
+                data = hexed(bytes([version, 4, 2, 0, 4, op]) + struct.pack('<H', value))
+                yield f'code 0 0 {data}'
+                yield f'code 0 1 {data}'
+
+
+def one(rng):
+    door = rng.choice(['unwind', 'codes', 'code', 'code', 'scope'])
+    if door == 'scope':
+        n = rng.randrange(4)
+        data = struct.pack('<I', max(n + rng.choice([0, 0, 0, 1, -1]), 0)) + noise(rng, 16 * n)
+        return f'scope {around(rng, 0, n)} {hexed(data)}'
+    else:
+        n = rng.choice([0, 1, 2, 3, 4, 5, 8, 16])
+        slots = bytes(x for _ in range(n) for x in (rng.randrange(8), rng.choice([0, 1, 0x11, 2, 3, 4, 5, 6, 7, 8, 9, 10, 0x1A]) | (rng.getrandbits(4) << 4 if rng.random() < 0.3 else 0)))
+        first = rng.choice([1, 1, 1, 2, 2, 9, 0x11, 0x19, 0x21, 0x0A, rng.getrandbits(8)])
+        data = bytes([first, rng.getrandbits(8), n, rng.choice([0, 0, 5, 0x25, rng.getrandbits(8)])]) + slots + bytes(2 * (n % 2)) + noise(rng, rng.choice([0, 4, 12, 20]))
+        if rng.random() < 0.1:
+            data = data[:rng.randrange(len(data) + 1)]
+        front = noise(rng, rng.choice([0, 0, 0, 3]))
+        at = len(front) if rng.random() < 0.97 else around(rng, 0, len(data), 2 ** 64 - 1)
+        index = f' {around(rng, 0, n)}' if door == 'code' else ''
+        return f'{door} {at}{index} {hexed(front + data)}'

@@ -48,6 +48,10 @@ fn read_door(line: &[u8], r: Request, s: &[u8], out: &mut [u8; 65536], at: usize
     if unwind.known {
         return unwind;
     }
+    let links = ask_links::answer_read(word, r, s, out, at);
+    if links.known {
+        return links;
+    }
     ask_versions::answer_read(word, r, s, out, at)
 }
 

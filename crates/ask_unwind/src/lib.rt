@@ -62,7 +62,7 @@ fn unwind_at(r: Request, s: &[u8], out: &mut [u8; 65536], at: usize) -> usize {
 }
 
 // Version, prolog, frame register and offset, then what follows the codes.
-fn put_info(i: UnwindInfo, out: &mut [u8; 65536], at: usize) -> usize {
+pub fn put_info(i: UnwindInfo, out: &mut [u8; 65536], at: usize) -> usize {
     let register = i.frame_register;
     let follows = i.follows;
     let mut end = reply::ok(out, at);
@@ -201,7 +201,7 @@ fn scope_at(r: Request, s: &[u8], out: &mut [u8; 65536], at: usize) -> usize {
     reply::usage(out, at, r, b"scope INDEX BYTES")
 }
 
-fn put_entry(e: ScopeTableEntry, out: &mut [u8; 65536], at: usize) -> usize {
+pub fn put_entry(e: ScopeTableEntry, out: &mut [u8; 65536], at: usize) -> usize {
     let mut end = reply::ok(out, at);
     end = reply::number(out, end, e.begin as u64);
     end = reply::number(out, end, e.end as u64);
@@ -223,18 +223,13 @@ fn register_name(r: Request, out: &mut [u8; 65536], at: usize) -> usize {
     reply::usage(out, at, r, b"register NUMBER, below 256")
 }
 
-// The low 32 bits of a number.
-fn low(n: u64) -> u32 {
-    (n % 4294967296) as u32
-}
-
 fn scope_put(r: Request, s: &mut [u8], out: &mut [u8; 65536], at: usize) -> usize {
     if request::has(r, 5, true) {
         let e = ScopeTableEntry {
-            begin: low(request::number(r, 1)),
-            end: low(request::number(r, 2)),
-            handler: low(request::number(r, 3)),
-            target: low(request::number(r, 4)),
+            begin: request::word(r, 1),
+            end: request::word(r, 2),
+            handler: request::word(r, 3),
+            target: request::word(r, 4),
         };
         let w = scope::write(s, request::place(r, 0), e);
         return reply::written(w, s, out, at);

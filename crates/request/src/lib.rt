@@ -73,6 +73,11 @@ pub fn place(r: Request, i: usize) -> usize {
     number(r, i) as usize
 }
 
+// The low 32 bits of a number.
+pub fn word(r: Request, i: usize) -> u32 {
+    (number(r, i) % 4294967296) as u32
+}
+
 // Whether the line is good and has `count` numbers and, where `bytes` is true, bytes.
 pub fn has(r: Request, count: usize, bytes: bool) -> bool {
     if r.fault != GOOD {
@@ -102,7 +107,7 @@ pub fn first_of(s: &[u8], n: usize) -> &[u8] {
 }
 
 // Where the word that begins at `from` ends.
-pub fn word_end(s: &[u8], from: usize) -> usize {
+fn word_end(s: &[u8], from: usize) -> usize {
     let mut i = from;
     while i < s.len() {
         if s[i] == b' ' {

@@ -7,8 +7,9 @@ use goblin::pe::exception::{
 };
 use goblin::pe::header::COFF_MACHINE_X86_64;
 use goblin::pe::options::ParseOptions;
+use goblin::pe::section_table::SectionTable;
 use goblin::pe::utils::find_offset;
-use scroll::{Pwrite, LE};
+use scroll::{Pread, Pwrite, LE};
 
 fn function_values(f: &RuntimeFunction) -> Vec<String> {
     vec![f.begin_address.to_string(), f.end_address.to_string(), f.unwind_info_address.to_string()]
@@ -20,6 +21,64 @@ fn data<'a>(bytes: &'a [u8], table: usize, count: usize) -> Option<ExceptionData
     options.resolve_rva = false;
     let directory = DataDirectory { virtual_address: 0, size: u32::try_from(count.checked_mul(12)?).ok()? };
     ExceptionData::parse_with_opts(bytes.get(table..)?, directory, &[], 1, &options).ok()
+}
+
+/// A file and its section table, up to a row that is not whole: goblin maps by the rows in order.
+struct Mapped<'a> {
+    bytes: &'a [u8],
+    sections: Vec<SectionTable>,
+    alignment: u32,
+}
+
+impl<'a> Mapped<'a> {
+    fn new(request: &Request, bytes: &'a [u8]) -> Option<Mapped<'a>> {
+        let sections = (0..request.place(1)).map_while(|i| crate::pe::row(bytes, request.place(0), i).ok()).collect();
+        Some(Mapped { bytes, sections, alignment: u32::try_from(request.number(2)).ok()? })
+    }
+
+    /// The record at an address.
+    fn record(&self, address: usize) -> Result<RuntimeFunction, ()> {
+        let at = find_offset(address, &self.sections, self.alignment, &ParseOptions::default()).ok_or(())?;
+        self.bytes.pread_with(at, LE).map_err(|_| ())
+    }
+
+    /// goblin's own: odd addresses are followed, chained infos are not.
+    fn info(&self, function: RuntimeFunction) -> Result<UnwindInfo<'a>, ()> {
+        let mut options = ParseOptions::default();
+        options.resolve_rva = false;
+        let nowhere = DataDirectory { virtual_address: 0, size: 0 };
+        let data = ExceptionData::parse_with_opts(self.bytes, nowhere, &[], self.alignment, &options).map_err(|_| ())?;
+        data.get_unwind_info(function, &self.sections).map_err(|_| ())
+    }
+
+    /// The info of a record, or the one at an index of those that it is chained to.
+    fn chained(&self, function: RuntimeFunction, index: usize) -> Result<UnwindInfo<'a>, ()> {
+        let mut info = self.info(function)?;
+        for _ in 0..index {
+            info = self.info(info.chained_info.ok_or(())?)?;
+        }
+        Ok(info)
+    }
+
+    /// How many links a record has, odd addresses and chained infos alike, and how many codes its infos have. `None` where infos are
+    /// chained for ever, which goblin does not follow.
+    fn all_codes(&self, function: RuntimeFunction) -> Option<Result<Vec<String>, ()>> {
+        let (mut links, mut codes, mut next) = (0, 0, Some(function));
+        while let Some(mut function) = next {
+            if links > 100 {
+                return None;
+            }
+            let Ok((info, count)) = self.info(function).and_then(|info| Ok((info.clone(), decoded(&info)?.len()))) else { return Some(Err(())) };
+            while function.unwind_info_address % 2 != 0 {
+                function = self.record(function.unwind_info_address as usize - 1).ok()?;
+                links += 1;
+            }
+            next = info.chained_info;
+            links += next.iter().count();
+            codes += count;
+        }
+        Some(Ok(vec![links.to_string(), codes.to_string()]))
+    }
 }
 
 /// Opening by the parts, in document 01's order; goblin checks neither the order of the table nor that it lies in the file.
@@ -100,8 +159,7 @@ pub fn info_values(bytes: &[u8], info: &UnwindInfo) -> Vec<String> {
 }
 
 /// All codes of an info, up to the first that is refused.
-fn codes(bytes: &[u8], at: usize) -> Result<Vec<UnwindCode>, ()> {
-    let info = UnwindInfo::parse(bytes, at).map_err(|_| ())?;
+fn decoded(info: &UnwindInfo) -> Result<Vec<UnwindCode>, ()> {
     let mut all = Vec::new();
     for code in info.unwind_codes() {
         all.push(code.map_err(|_| ())?);
@@ -125,12 +183,22 @@ fn code(bytes: &[u8], at: usize, index: usize) -> Result<UnwindCode, ()> {
 fn scopes(data: &[u8]) -> Result<Vec<ScopeTableEntry>, ()> {
     let mut bytes = vec![9, 0, 0, 0, 0, 0, 0, 0];
     bytes.extend(data);
-    let info = UnwindInfo::parse(&bytes, 0).map_err(|_| ())?;
+    scopes_at(&bytes, 0)
+}
+
+/// The scope table behind the info at an offset.
+fn scopes_at(bytes: &[u8], at: usize) -> Result<Vec<ScopeTableEntry>, ()> {
+    let info = UnwindInfo::parse(bytes, at).map_err(|_| ())?;
     Ok(info.c_scope_table_entries().ok_or(())?.collect())
 }
 
 fn scope_values(e: &ScopeTableEntry) -> Vec<String> {
     [e.begin, e.end, e.handler, e.target].iter().map(u32::to_string).collect()
+}
+
+fn function(request: &Request) -> RuntimeFunction {
+    let n = |i| request.number(i) as u32;
+    RuntimeFunction { begin_address: n(3), end_address: n(4), unwind_info_address: n(5) }
 }
 
 pub fn answer(request: &Request) -> Option<String> {
@@ -159,7 +227,8 @@ pub fn answer(request: &Request) -> Option<String> {
         }
         "codes" => {
             let bytes = request.bytes_after(1)?;
-            told(codes(bytes, request.place(0)), |all| vec![all.len().to_string()])
+            let info = UnwindInfo::parse(bytes, request.place(0)).map_err(|_| ());
+            told(info.and_then(|info| decoded(&info)), |all| vec![all.len().to_string()])
         }
         "code" => {
             let bytes = request.bytes_after(2)?;
@@ -172,6 +241,28 @@ pub fn answer(request: &Request) -> Option<String> {
         "scope" => {
             let data = request.bytes_after(1)?;
             told(scopes(data).and_then(|all| all.get(request.place(0)).copied().ok_or(())), |e| scope_values(&e))
+        }
+        "scopes_at" => {
+            let bytes = request.bytes_after(1)?;
+            told(scopes_at(bytes, request.place(0)), |all| vec![all.len().to_string()])
+        }
+        "scope_at" => {
+            let bytes = request.bytes_after(2)?;
+            let found = scopes_at(bytes, request.place(0)).and_then(|all| all.get(request.place(1)).copied().ok_or(()));
+            told(found, |e| scope_values(&e))
+        }
+        "record_at" => {
+            let bytes = request.bytes_after(4)?;
+            told(Mapped::new(request, bytes)?.record(request.place(3)), |f| function_values(&f))
+        }
+        "info_of" => {
+            let bytes = request.bytes_after(7)?;
+            let image = Mapped::new(request, bytes)?;
+            told(image.chained(function(request), request.place(6)), |info| info_values(bytes, &info))
+        }
+        "all_codes" => {
+            let bytes = request.bytes_after(6)?;
+            told(Mapped::new(request, bytes)?.all_codes(function(request))?, |words| words)
         }
         "scope_put" => {
             let bytes = request.bytes_after(5)?;

@@ -99,7 +99,7 @@ fn image_values(image: &Image) -> Vec<String> {
 }
 
 /// Row `index` of the table at `table`.
-fn row(bytes: &[u8], table: usize, index: usize) -> Result<SectionTable, ()> {
+pub fn row(bytes: &[u8], table: usize, index: usize) -> Result<SectionTable, ()> {
     let mut at = index.checked_mul(40).and_then(|from| table.checked_add(from)).ok_or(())?;
     SectionTable::parse(bytes, &mut at, 0).map_err(|_| ())
 }
