@@ -4,7 +4,6 @@ use Prim.Native.Nat.{ℕ, zero, suc}
 use Prim.Native.Char.{code}
 use Prim.Native.String.{String, [] as end, _∷_ as _then_}
 use mathlib.Core.List.{List, [], _∷_}
-use lib.ListN.{replicate}
 
 -- the texts of the answers, from 0 on
 abbrev pub texts : List String

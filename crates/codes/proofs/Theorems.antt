@@ -6,13 +6,13 @@ use mathlib.Core.Bool.{Bool, true, false}
 use Prim.Native.Nat.{ℕ, zero, suc, _+_, _-_, _*_, _≤_, _<_}
 use native.Mathlib.Nat.{le-of-suc-le-suc, not-suc-le-zero}
 use native.Mathlib.Omega.{arith}
-use lib.ListN.{length, take, drop, length-take, length-drop}
+use lib.ListN.{length, drop, length-take, length-drop}
 use lib.Dec.{leb}
 use Rattle.answer.specs.Answer.{refuse, notFound}
 use Rattle.answer.specs.Test.{pick, fileLimit}
 use Rattle.answer.proofs.Unique.{same}
 use Rattle.fields.specs.Number.{Bytes}
-use Rattle.fields.proofs.Number.{bytes-drop}
+use Rattle.fields.proofs.Number.{bytes-take, bytes-drop}
 use Rattle.operation.specs.Operation.{slotCount, codeAt}
 use Rattle.operation.specs.declared.UnwindCode.{UnwindCode}
 use Rattle.operation.specs.declared.TakenCode.{TakenCode}
@@ -81,11 +81,6 @@ module _ (s : List ℕ) (v frame : ℕ) (b : Bytes s) where
   from-range zero at = tt
   from-range (suc n) at =
       range-test (leb (slotCount s) at) (onCode (codeAt s at v frame) refusedHere (λ t. preceded (t .code) (codesFrom n s (t .next) v frame))) (range-turn n at (codeAt s at v frame) refl (λ t. from-range n (t .next)))
-
-bytes-take : (n : ℕ) (s : List ℕ) → Bytes s → Bytes (take n s)
-bytes-take zero s h = tt
-bytes-take (suc n) [] h = tt
-bytes-take (suc n) (x ∷ s) h = (h .0, bytes-take n s (h .1))
 
 -- Of a file of bytes, each register of an info's codes has its number.
 pub whole-registers : (s : List ℕ) (at : ℕ) (i : UnwindInfo) (cs : List UnwindCode) → Bytes s → has i cs ≡ wholeAt s at → AllInRange cs

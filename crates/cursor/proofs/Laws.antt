@@ -3,13 +3,11 @@
 use mathlib.Core.Path.{_≡_, refl, ap}
 use mathlib.Core.List.{List, [], _∷_}
 use mathlib.Core.Bool.{Bool, false}
-use Prim.Native.Nat.{ℕ, _+_, _≤_, _<_}
+use Prim.Native.Nat.{ℕ, _+_, _≤_}
 use lib.ListN.{length}
-use Rattle.answer.specs.Answer.{accepted, refused, cut}
 use Rattle.answer.specs.declared.Refusal.{Refusal}
 use Rattle.fields.specs.Number.{numberAt}
-use Rattle.fields.specs.Field.{fieldOf}
-use Rattle.fields.proofs.Laws.{Missed, field-value, field-cut, told-value, told-cut}
+use Rattle.fields.proofs.Laws.{Missed, missed-of, field-value, field-cut, told-value, told-cut}
 use Rattle.cursor.specs.Next.{nextOf, takenByte, takenHalf, takenWord, takenLong}
 use Rattle.cursor.specs.Answers.{answerNextByte, answerNextHalf, answerNextWord, answerNextLong}
 use Rattle.cursor.specs.declared.Cursor.{Cursor}
@@ -50,9 +48,6 @@ two-second e = cc
 
 took-of : {big : Bool} {w : ℕ} {s : List ℕ} {at n next : ℕ} → (at + w ≤ length s) × (n ∷ next ∷ [] ≡ numberAt big w s at ∷ (at + w) ∷ []) → Took big w s at n next
 took-of p = record { inside = p .0; value = two-first (p .1); past = two-second (p .1) }
-
-missed-of : {w : ℕ} {s : List ℕ} {at : ℕ} {k : Refusal} → (length s < at + w) × (k ≡ cut (at + w)) → Missed w s at k
-missed-of p = record { past = p .0; why = p .1 }
 
 module _ (s : List ℕ) (at : ℕ) {r : NextByte} (e : r ≡ nextOf takenByte byte.Refused false 1 s at) where
   pub byte-took : {t : TakenByte} → r ≡ byte.Value t → Took false 1 s at (t .value) (t .next .at)

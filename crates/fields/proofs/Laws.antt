@@ -4,14 +4,13 @@ use mathlib.Core.Path.{_≡_, refl, sym, ap, _∙_}
 use mathlib.Core.List.{List, [], _∷_, _++_}
 use mathlib.Core.Logic.{_⊎_, inl, inr, ⊎-elim}
 use mathlib.Core.Bool.{Bool, true, false}
-use Prim.Native.Nat.{ℕ, suc, _+_, _*_, _^_, _≤_, _<_}
+use Prim.Native.Nat.{ℕ, suc, _+_, _^_, _≤_, _<_}
 use native.Mathlib.Nat.{add-zero}
 use native.Mathlib.Omega.{arith}
-use lib.ListN.{length, getD, take, drop, set, length-append}
+use lib.ListN.{length, set, length-append}
 use lib.Seq.{sets, sets-eq, length-sets}
 use lib.Dec.{leb}
 use borrow.Author.Tests.{le-leb, lt-leb, leb-true, leb-false}
-use Rattle.answer.specs.Test.{pick}
 use Rattle.answer.specs.Answer.{Answer, accepted, refused, cut, refuse, short, room}
 use Rattle.answer.specs.declared.Refusal.{Refusal}
 use Rattle.fields.specs.Number.{numberAt, bytesOf, joined}
@@ -25,7 +24,6 @@ use Rattle.fields.specs.declared.Word.{Word}
 use Rattle.fields.specs.declared.Word.the-variants as word
 use Rattle.fields.specs.declared.Long.{Long}
 use Rattle.fields.specs.declared.Long.the-variants as long
-use Rattle.fields.specs.declared.Written.{Written}
 use Rattle.fields.specs.declared.Written.the-variants.{Done, Refused}
 use Rattle.fields.proofs.Number.{length-bytes, number-joined, bytes-joined, number-one, bytes-one}
 
@@ -94,7 +92,7 @@ one-value e = cc
 found-of : {big : Bool} {w : ℕ} {s : List ℕ} {at n : ℕ} → (at + w ≤ length s) × (n ∷ [] ≡ numberAt big w s at ∷ []) → Found big w s at n
 found-of p = record { inside = p .0; value = one-value (p .1) }
 
-missed-of : {w : ℕ} {s : List ℕ} {at : ℕ} {k : Refusal} → (length s < at + w) × (k ≡ cut (at + w)) → Missed w s at k
+pub missed-of : {w : ℕ} {s : List ℕ} {at : ℕ} {k : Refusal} → (length s < at + w) × (k ≡ cut (at + w)) → Missed w s at k
 missed-of p = record { past = p .0; why = p .1 }
 
 module _ (s : List ℕ) (at : ℕ) {r : Byte} (e : r ≡ fieldOf byte.Value byte.Refused false 1 s at) where

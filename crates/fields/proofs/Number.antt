@@ -7,15 +7,14 @@ use Prim.Native.Nat.{ℕ, zero, suc, _+_, _*_, _/_, _%_, _^_, _≤_, _<_}
 use native.Mathlib.Nat.{div-lt-iff-lt-mul, not-suc-le-zero, one-mul, mul-assoc, pow-succ'}
 use native.Mathlib.Omega.{arith}
 use lib.ListN.{length, getD, take, drop, length-append, length-take, length-drop}
-use lib.Seq.{take-add, drop-drop, drop-cons}
-use Rattle.answer.specs.Test.{pick}
+use lib.Seq.{take-add, drop-drop, drop-cons, drop-append-le, take-append-le}
 use Rattle.fields.specs.Number.{flip, little, littleBytes, ordered, numberAt, bytesOf, joined, Bytes}
 
 flip-snoc : (bs : List ℕ) (b : ℕ) → flip (bs ++ (b ∷ [])) ≡ b ∷ flip bs
 flip-snoc [] b = refl
 flip-snoc (a ∷ bs) b = rw (flip-snoc bs b)
 
-flip-flip : (bs : List ℕ) → flip (flip bs) ≡ bs
+pub flip-flip : (bs : List ℕ) → flip (flip bs) ≡ bs
 flip-flip [] = refl
 flip-flip (b ∷ bs) = rw (flip-snoc (flip bs) b, flip-flip bs)
 
@@ -36,7 +35,7 @@ bytes-drop zero s h = h
 bytes-drop (suc n) [] h = tt
 bytes-drop (suc n) (b ∷ s) h = bytes-drop n s (h .1)
 
-bytes-take : (n : ℕ) (s : List ℕ) → Bytes s → Bytes (take n s)
+pub bytes-take : (n : ℕ) (s : List ℕ) → Bytes s → Bytes (take n s)
 bytes-take zero s h = tt
 bytes-take (suc n) [] h = tt
 bytes-take (suc n) (b ∷ s) h = (h .0, bytes-take n s (h .1))
@@ -97,6 +96,14 @@ take-all-of (suc w) (x ∷ a) b e = ap (λ (l : List ℕ). x ∷ l) (take-all-of
 bytes-number : (big : Bool) (w n : ℕ) → n < 256 ^ w → little (ordered big (bytesOf big w n)) ≡ n
 unfolding bytesOf
 bytes-number big w n h = rw (ordered-twice big (littleBytes w n)) (little-back w n h)
+
+-- what follows a number does not change it
+pub number-before : (big : Bool) (w : ℕ) (s q : List ℕ) (at : ℕ) → at + w ≤ length s → numberAt big w (s ++ q) at ≡ numberAt big w s at
+unfolding numberAt
+number-before big w s q at h =
+    let a : at ≤ length s = omega arith in
+    let l : w ≤ length (drop at s) = omega (arith, length-drop at s) in
+    rw (drop-append-le at s q a, take-append-le w (drop at s) q l)
 
 -- a number that fits is read back from its bytes, whatever follows
 pub number-written : (big : Bool) (w n : ℕ) (rest : List ℕ) → n < 256 ^ w → numberAt big w (bytesOf big w n ++ rest) 0 ≡ n

@@ -7,8 +7,7 @@ use mathlib.Core.Bool.{Bool, true, false}
 use mathlib.Core.Logic.{⊎-elim}
 use Prim.Native.Nat.{ℕ, zero, suc, _+_, _≤_}
 use native.Mathlib.Omega.{arith}
-use lib.ListN.{length, drop, length-append, length-drop}
-use lib.Seq.{drop-append-le, take-append-le}
+use lib.ListN.{length, length-append}
 use lib.Dec.{leb, eqb}
 use borrow.Author.Tests.{le-leb, lt-leb}
 use Rattle.answer.specs.Answer.{cut}
@@ -17,6 +16,7 @@ use Rattle.answer.specs.declared.Refusal.{Refusal}
 use Rattle.answer.proofs.Laws.{must-on}
 use Rattle.fields.specs.Number.{numberAt}
 use Rattle.fields.specs.Field.{fieldOf}
+use Rattle.fields.proofs.Number.{number-before}
 use Rattle.fields.specs.declared.Word.{Word}
 use Rattle.fields.specs.declared.Word.the-variants as word
 use Rattle.fields.proofs.Laws.{le-or-lt, field-value, field-cut}
@@ -50,13 +50,6 @@ pub data Upto {A : Type 0} (refusal : Refusal → A) (x y : A) : Type 0 where
 moved : {A : Type 0} {refusal : Refusal → A} {x y a b : A} → a ≡ x → b ≡ y → Upto refusal x y → Upto refusal a b
 moved e f (equal g) = equal (e ∙ g ∙ sym f)
 moved e f (missing end g) = missing end (e ∙ g)
-
-number-before : (big : Bool) (w : ℕ) (p q : List ℕ) (at : ℕ) → at + w ≤ length p → numberAt big w (p ++ q) at ≡ numberAt big w p at
-unfolding numberAt
-number-before big w p q at h =
-    let a : at ≤ length p = omega arith in
-    let l : w ≤ length (drop at p) = omega (arith, length-drop at p) in
-    rw (drop-append-le at p q a, take-append-le w (drop at p) q l)
 
 must-upto : {A : Type 0} (refusal : Refusal → A) (t : Bool) (k : ℕ) {x y : A} → Upto refusal x y → Upto refusal (must refusal t k x) (must refusal t k y)
 unfolding must

@@ -7,12 +7,12 @@ use mathlib.Core.Logic.{⊎-elim}
 use Prim.Native.Nat.{ℕ, zero, suc, _+_, _≤_, _<_}
 use native.Mathlib.Nat.{not-le-of-lt, add-zero}
 use native.Mathlib.Omega.{arith}
-use lib.ListN.{drop-of-length-le, length, take, drop, length-append, length-drop}
-use lib.Seq.{drop-cons, take-add, drop-drop, drop-append-add, drop-append-le, take-append-le}
+use lib.ListN.{drop-of-length-le, length, take, drop, length-append}
+use lib.Seq.{drop-cons, take-add, drop-drop, drop-append-add}
 use lib.Dec.{leb}
 use borrow.Author.Tests.{le-leb, lt-leb, leb-true, leb-false}
 use Rattle.fields.specs.Number.{numberAt, bytesOf, Bytes}
-use Rattle.fields.proofs.Number.{length-bytes, number-written, bytes-read}
+use Rattle.fields.proofs.Number.{length-bytes, number-written, number-before, bytes-read}
 use Rattle.fields.proofs.Laws.{le-or-lt}
 use Rattle.layout.specs.Layout.{elements, size, readBy, numbersAt, writeBy, Fits}
 use Rattle.layout.proofs.Laws.{read-full, length-write}
@@ -37,13 +37,6 @@ leb-shift p a b {n} e = leb-as (p + a) n a b (leb a b) refl (λ h. omega arith) 
 number-past : (big : Bool) (w : ℕ) (p s : List ℕ) (at : ℕ) → numberAt big w (p ++ s) (length p + at) ≡ numberAt big w s at
 unfolding numberAt
 number-past big w p s at = rw (drop-append-add p s at)
-
-number-before : (big : Bool) (w : ℕ) (s q : List ℕ) (at : ℕ) → at + w ≤ length s → numberAt big w (s ++ q) at ≡ numberAt big w s at
-unfolding numberAt
-number-before big w s q at h =
-    let a : at ≤ length s = omega arith in
-    let l : w ≤ length (drop at s) = omega (arith, length-drop at s) in
-    rw (drop-append-le at s q a, take-append-le w (drop at s) q l)
 
 -- What precedes the record does not change what is read; the end that is told counts from the front of all.
 pub read-after : {A : Type 0} (full : List ℕ → A) (short : ℕ → A) (big : Bool) (ws p s : List ℕ) (at : ℕ) → readBy full short big ws (p ++ s) (length p + at) ≡ readBy full (λ e. short (length p + e)) big ws s at

@@ -1,6 +1,5 @@
 -- What each answer of this crate stands for.
 -- Assumes nothing.
-use mathlib.Core.List.{[], _∷_}
 use Rattle.answer.specs.Answer.{Answer, accepted, refused}
 use Rattle.runtime.specs.declared.Found.{Found}
 use Rattle.runtime.specs.declared.Found.the-variants.{At, Refused}

@@ -1,7 +1,7 @@
 -- The two byte orders: a record whose fields' bytes are reversed reads in the other order as it did in the first.
 -- Assumes nothing.
 use mathlib.Core.Path.{_≡_, refl, ap}
-use mathlib.Core.List.{List, [], _∷_, _++_}
+use mathlib.Core.List.{List, [], _∷_}
 use mathlib.Core.Logic.{⊎-elim}
 use mathlib.Core.Bool.{Bool, true, false, not}
 use Prim.Native.Nat.{ℕ, _+_, _≤_, _<_}
@@ -9,17 +9,10 @@ use native.Mathlib.Omega.{arith}
 use lib.ListN.{length, take, drop}
 use borrow.Author.Tests.{le-leb, lt-leb}
 use Rattle.fields.specs.Number.{flip, numberAt}
+use Rattle.fields.proofs.Number.{flip-flip}
 use Rattle.fields.proofs.Laws.{le-or-lt}
 use Rattle.layout.specs.Layout.{size, readBy, numbersAt}
 use Rattle.layout.proofs.Laws.{read-full}
-
-flip-snoc : (bs : List ℕ) (b : ℕ) → flip (bs ++ (b ∷ [])) ≡ b ∷ flip bs
-flip-snoc [] b = refl
-flip-snoc (a ∷ bs) b = rw (flip-snoc bs b)
-
-flip-flip : (bs : List ℕ) → flip (flip bs) ≡ bs
-flip-flip [] = refl
-flip-flip (b ∷ bs) = rw (flip-snoc (flip bs) b, flip-flip bs)
 
 -- the record at `at` of `t` is that of `s` with the bytes of each field reversed
 abbrev pub Mirrored : List ℕ → List ℕ → List ℕ → ℕ → Type 0

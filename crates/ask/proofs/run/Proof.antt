@@ -1,9 +1,8 @@
 -- `ask::run` is safe and ends: the turns left fall.
 -- Assumes nothing.
-use Prim.Native.Nat.{_+_, _-_, _≤_, _<_}
+use Prim.Native.Nat.{_-_}
 use mathlib.Core.Path.{_≡_}
 use lib.ListN.{length}
-use native.Mathlib.Omega.{arith}
 use borrow.Author.Needs.{needs}
 use Rattle.ask.proofs.run.Statement.{statement}
 use Rattle.ask.proofs.run.Tie as tie

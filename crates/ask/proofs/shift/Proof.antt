@@ -1,8 +1,6 @@
 -- `ask::shift` is safe and ends: what is left to move falls.
 -- Assumes nothing.
-use Prim.Native.Nat.{_+_, _-_, _≤_, _<_}
-use lib.ListN.{length}
-use native.Mathlib.Omega.{arith}
+use Prim.Native.Nat.{_-_}
 use borrow.Author.Needs.{needs}
 use Rattle.ask.proofs.shift.Statement.{statement}
 use Rattle.ask.proofs.shift.Tie as tie

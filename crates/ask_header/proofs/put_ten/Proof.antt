@@ -1,8 +1,6 @@
 -- `ask_header::put_ten` is safe and ends: what is left of the ten falls.
 -- Assumes nothing.
-use Prim.Native.Nat.{_+_, _-_, _≤_, _<_}
-use lib.ListN.{length}
-use native.Mathlib.Omega.{arith}
+use Prim.Native.Nat.{_-_, _≤_}
 use borrow.Author.Needs.{needs}
 use Rattle.ask_header.proofs.put_ten.Statement.{statement}
 use Rattle.ask_header.proofs.put_ten.Tie as tie

@@ -1,7 +1,6 @@
 -- `ask_links::reached` is safe and ends: what is left of the index falls.
 -- Assumes nothing.
-use Prim.Native.Nat.{_≤_, _-_, _<_}
-use native.Mathlib.Omega.{arith}
+use Prim.Native.Nat.{_≤_, _-_}
 use borrow.Author.Needs.{needs}
 use Rattle.ask_links.proofs.reached.Statement.{statement}
 use Rattle.ask_links.proofs.reached.Tie as tie

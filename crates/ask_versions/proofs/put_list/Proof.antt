@@ -1,8 +1,7 @@
 -- `ask_versions::put_list` is safe and ends: what is left of the rows falls.
 -- Assumes nothing.
-use Prim.Native.Nat.{_+_, _-_, _≤_, _<_}
+use Prim.Native.Nat.{_-_, _≤_}
 use lib.ListN.{length}
-use native.Mathlib.Omega.{arith}
 use borrow.Author.Needs.{needs}
 use Rattle.ask_versions.proofs.put_list.Statement.{statement}
 use Rattle.ask_versions.proofs.put_list.Tie as tie

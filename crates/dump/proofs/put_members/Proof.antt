@@ -1,8 +1,6 @@
 -- `dump::put_members` is safe and ends: what is left of the count falls.
 -- Assumes nothing.
-use Prim.Native.Nat.{_+_, _-_, _≤_, _<_}
-use lib.ListN.{length}
-use native.Mathlib.Omega.{arith}
+use Prim.Native.Nat.{_-_}
 use borrow.Author.Needs.{needs}
 use Rattle.dump.proofs.put_members.Statement.{statement}
 use Rattle.dump.proofs.put_members.Tie as tie

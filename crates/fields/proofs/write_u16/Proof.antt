@@ -1,7 +1,6 @@
 -- `fields::write_u16` meets its contract: the test is whether the field fits.
 -- Assumes nothing.
 use borrow.Author.Needs.{needs}
-use native.Mathlib.Omega.{arith}
 use mathlib.Core.Path.{sym, _∙_}
 use borrow.Author.Tests.{leb-true, leb-false}
 use Rattle.fields.proofs.Laws.{store-done, store-refused}

@@ -2,8 +2,6 @@
 -- Assumes nothing.
 use borrow.Author.Needs.{needs}
 use native.Mathlib.Omega.{arith}
-use mathlib.Core.Path.{sym, _∙_}
-use borrow.Author.Tests.{leb-true, leb-false}
 use Rattle.fields.proofs.Laws.{store-done, store-refused}
 use Rattle.fields.proofs.Number.{length-bytes}
 use Rattle.fields.proofs.write_u8.Statement.{statement}

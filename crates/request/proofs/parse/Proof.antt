@@ -1,8 +1,7 @@
 -- `request::parse` is safe and ends: what is left of the line falls.
 -- Assumes nothing.
-use Prim.Native.Nat.{_+_, _-_, _≤_, _<_}
+use Prim.Native.Nat.{_-_}
 use lib.ListN.{length}
-use native.Mathlib.Omega.{arith}
 use borrow.Author.Needs.{needs}
 use Rattle.request.proofs.parse.Statement.{statement}
 use Rattle.request.proofs.parse.Tie as tie

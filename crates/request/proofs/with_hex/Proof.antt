@@ -1,8 +1,7 @@
 -- `request::with_hex` is safe and ends: what is left of the word falls.
 -- Assumes nothing.
-use Prim.Native.Nat.{_+_, _-_, _≤_, _<_}
+use Prim.Native.Nat.{_-_, _≤_}
 use lib.ListN.{length}
-use native.Mathlib.Omega.{arith}
 use borrow.Author.Needs.{needs}
 use Rattle.request.proofs.with_hex.Statement.{statement}
 use Rattle.request.proofs.with_hex.Tie as tie

@@ -1,8 +1,7 @@
 -- `request::word_end` is safe and ends: what is left of the slice falls.
 -- Assumes nothing.
-use Prim.Native.Nat.{_+_, _-_, _≤_, _<_}
+use Prim.Native.Nat.{_-_, _≤_}
 use lib.ListN.{length}
-use native.Mathlib.Omega.{arith}
 use borrow.Author.Needs.{needs}
 use Rattle.request.proofs.word_end.Statement.{statement}
 use Rattle.request.proofs.word_end.Tie as tie

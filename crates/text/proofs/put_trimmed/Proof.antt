@@ -1,8 +1,7 @@
 -- `text::put_trimmed` is safe and ends: what is left falls.
 -- Assumes nothing.
-use Prim.Native.Nat.{_+_, _-_, _≤_, _<_}
+use Prim.Native.Nat.{_-_, _≤_}
 use lib.ListN.{length}
-use native.Mathlib.Omega.{arith}
 use borrow.Author.Needs.{needs}
 use Rattle.text.proofs.put_trimmed.Statement.{statement}
 use Rattle.text.proofs.put_trimmed.Tie as tie
