@@ -4,7 +4,7 @@ import struct
 from .common import around, hexed, joined, noise, taken, words_at
 
 NAME = 'unwind_info'
-DOORS = ['unwind', 'codes', 'code', 'scopes', 'scope', 'scope_put']
+DOORS = ['unwind', 'codes', 'code', 'scopes', 'scope', 'scope_put', 'register']
 
 
 # Document 01's answers.
@@ -126,7 +126,17 @@ def scope_put(data, at, *numbers):
     return f'ok {hexed(data[:at] + struct.pack("<4I", *numbers) + data[at + 16:])}'
 
 
+NAMES = 'rax rcx rdx rbx rsp rbp rsi rdi r8 r9 r10 r11 r12 r13 r14 r15 rip'.split() + [f'xmm{n}' for n in range(16)]
+
+
+def register(number):
+    name = f'${NAMES[number]}' if number < len(NAMES) else ''
+    return f'ok {hexed(name.ljust(6).encode())}'
+
+
 def expected(line):
+    if line.startswith('register '):
+        return register(int(line.split(' ')[1]))
     door, numbers, data = taken(line)
     return globals()[door](data, *numbers)
 
@@ -169,7 +179,9 @@ RULES = [
 # Requests.
 
 def always(rng):
-    """Every first byte; every kind and data of a first slot, in both versions; infos cut at every length."""
+    """Every register; every first byte; every kind and data of a first slot, in both versions; infos cut at every length."""
+    for number in range(256):
+        yield f'register {number}'
     for first in range(256):
         for count in (0, 1, 2):
             yield f'unwind 0 {hexed(bytes([first, 4, count, 0x35, 4, 0x42, 0, 0]) + bytes(range(1, 21)))}'

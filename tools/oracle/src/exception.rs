@@ -1,9 +1,9 @@
 //! x64 exception data: lookup, unwind info, operations and scope tables.
-use crate::request::Request;
+use crate::request::{hex, Request};
 use crate::told;
 use goblin::pe::data_directories::DataDirectory;
 use goblin::pe::exception::{
-    ExceptionData, RuntimeFunction, ScopeTableEntry, StackFrameOffset, UnwindCode, UnwindHandler, UnwindInfo, UnwindOperation,
+    ExceptionData, Register, RuntimeFunction, ScopeTableEntry, StackFrameOffset, UnwindCode, UnwindHandler, UnwindInfo, UnwindOperation,
 };
 use goblin::pe::header::COFF_MACHINE_X86_64;
 use goblin::pe::options::ParseOptions;
@@ -220,6 +220,11 @@ pub fn answer(request: &Request) -> Option<String> {
                 return Some("no".to_string());
             }
             told(data.get_function(request.place(2)), |f| function_values(&f))
+        }
+        "register" => {
+            let number = u8::try_from(request.number(0)).ok()?;
+            // filled up with spaces, as the door hands it out
+            format!("ok {}", hex(format!("{:6}", Register(number).name()).as_bytes()))
         }
         "unwind" => {
             let bytes = request.bytes_after(1)?;
