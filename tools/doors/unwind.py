@@ -217,15 +217,14 @@ def always(rng):
 
 
 def every():
-    """Every value of the slot of a list of one and, behind a first slot of each operation, of the second slot of a list of two."""
+    """Every value of the slot of a list of one; of the first slot of a list of two; and, behind a first slot of each operation, of the second."""
     for version in (1, 2):
         for value in range(65536):
-            yield f'code 0 0 {hexed(bytes([version, 4, 1, 0x25]) + struct.pack("<H", value))}'
-        for op in list(range(16)) + [0x11, 0x1A]:
-            for value in range(65536):
-                data = hexed(bytes([version, 4, 2, 0, 4, op]) + struct.pack('<H', value))
-                yield f'code 0 0 {data}'
-                yield f'code 0 1 {data}'
+            slot = struct.pack('<H', value)
+            yield f'code 0 0 {hexed(bytes([version, 4, 1, 0x25]) + slot)}'
+            firsts = [slot + bytes([6, 0])] + [bytes([4, op]) + slot for op in [*range(16), 0x11, 0x1A]]
+            for index in (0, 1):
+                yield from (f'code 0 {index} {hexed(bytes([version, 4, 2, 0]) + slots)}' for slots in firsts)
 
 
 def one(rng):
