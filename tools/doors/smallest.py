@@ -68,6 +68,7 @@ ENTRIES = [
     ('D15', f'exceptions {image(runtime((2, 1)), 272)}', 'no 9'),
     ('D16', f'info_of 0 1 512 0 0 4097 0 {hexed(links.file_of([links.record_to(0, 1)])[0])}', 'no 8'),
     ('D16', f'info_of 0 1 512 0 0 4097 0 {odd_records(33)}', 'no 8'),
+    ('D17', 'codes 0 x01000100000f', 'no 7'),
 ]
 ANSWERS = {line: answer for _, line, answer in ENTRIES}
 RULES = [(entry, line.__eq__, ANSWERS.get) for entry, line, _ in ENTRIES]

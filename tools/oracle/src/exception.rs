@@ -158,7 +158,7 @@ pub fn info_values(bytes: &[u8], info: &UnwindInfo) -> Vec<String> {
     words
 }
 
-/// All codes of an info, up to the first that is refused.
+/// All codes of an info, or the first that is refused.
 fn decoded(info: &UnwindInfo) -> Result<Vec<UnwindCode>, ()> {
     let mut all = Vec::new();
     for code in info.unwind_codes() {
@@ -232,8 +232,12 @@ pub fn answer(request: &Request) -> Option<String> {
         }
         "codes" => {
             let bytes = request.bytes_after(1)?;
-            let info = UnwindInfo::parse(bytes, request.place(0)).map_err(|_| ());
-            told(info.and_then(|info| decoded(&info)), |all| vec![all.len().to_string()])
+            match UnwindInfo::parse(bytes, request.place(0)) {
+                // more items than an info can have slots: the iterator repeats the error of a refused code for ever
+                Ok(info) if info.unwind_codes().take(256).count() == 256 => "hang".to_string(),
+                Ok(info) => format!("ok {}", info.unwind_codes().count()),
+                Err(_) => "no".to_string(),
+            }
         }
         "code" => {
             let bytes = request.bytes_after(2)?;
