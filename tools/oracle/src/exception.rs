@@ -31,9 +31,9 @@ struct Mapped<'a> {
 }
 
 impl<'a> Mapped<'a> {
-    fn new(request: &Request, bytes: &'a [u8]) -> Option<Mapped<'a>> {
+    fn new(request: &Request, bytes: &'a [u8]) -> Mapped<'a> {
         let sections = (0..request.place(1)).map_while(|i| crate::pe::row(bytes, request.place(0), i).ok()).collect();
-        Some(Mapped { bytes, sections, alignment: u32::try_from(request.number(2)).ok()? })
+        Mapped { bytes, sections, alignment: request.number(2) as u32 }
     }
 
     /// The record at an address.
@@ -262,16 +262,16 @@ pub fn answer(request: &Request) -> Option<String> {
         }
         "record_at" => {
             let bytes = request.bytes_after(4)?;
-            told(Mapped::new(request, bytes)?.record(request.place(3)), |f| function_values(&f))
+            told(Mapped::new(request, bytes).record(request.number(3) as u32 as usize), |f| function_values(&f))
         }
         "info_of" => {
             let bytes = request.bytes_after(7)?;
-            let image = Mapped::new(request, bytes)?;
+            let image = Mapped::new(request, bytes);
             told(image.chained(function(request), request.place(6)), |info| info_values(bytes, &info))
         }
         "all_codes" => {
             let bytes = request.bytes_after(6)?;
-            told(Mapped::new(request, bytes)?.all_codes(function(request))?, |words| words)
+            told(Mapped::new(request, bytes).all_codes(function(request))?, |words| words)
         }
         "scope_put" => {
             let bytes = request.bytes_after(5)?;
