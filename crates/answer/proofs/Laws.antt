@@ -4,7 +4,7 @@ use mathlib.Core.Path.{_≡_}
 use mathlib.Core.Bool.{Bool, true, false}
 use Prim.Native.Nat.{ℕ}
 use Rattle.answer.specs.declared.Refusal.{Refusal}
-use Rattle.answer.specs.Answer.{refuse}
+use Rattle.answer.specs.Answer.{refuseOf}
 use Rattle.answer.specs.Test.{must}
 
 module _ {A : Type 0} (refusal : Refusal → A) (test : Bool) (number : ℕ) (on : A) where
@@ -12,6 +12,6 @@ module _ {A : Type 0} (refusal : Refusal → A) (test : Bool) (number : ℕ) (on
   unfolding must
   must-on t e = rw (t, e)
 
-  pub must-off : {q : Refusal} → test ≡ false → q ≡ refuse number → refusal q ≡ must refusal test number on
+  pub must-off : {q : Refusal} → test ≡ false → q ≡ refuseOf number → refusal q ≡ must refusal test number on
   unfolding must
   must-off t e = rw (t, e)

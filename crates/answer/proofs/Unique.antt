@@ -3,7 +3,7 @@
 use mathlib.Core.Path.{_≡_, sym, _∙_}
 use mathlib.Core.List.{List}
 use Prim.Native.Nat.{ℕ}
-use Rattle.answer.specs.Words.{row}
+use Rattle.answer.specs.Words.{wordsOf}
 
 -- of an answer
 pub same : {A : Type 0} {d r q : A} → r ≡ d → q ≡ d → r ≡ q
@@ -13,5 +13,5 @@ same e f = e ∙ sym f
 pub same-both : {A B : Type 0} {d r q : A} {m l k : B} → (r ≡ d) × (l ≡ m) → (q ≡ d) × (k ≡ m) → (r ≡ q) × (l ≡ k)
 same-both e f = (same (e .0) (f .0), same (e .1) (f .1))
 
-pub words-unique : (n : ℕ) {r q : List ℕ} → r ≡ row n → q ≡ row n → r ≡ q
+pub words-unique : (n : ℕ) {r q : List ℕ} → r ≡ wordsOf n → q ≡ wordsOf n → r ≡ q
 words-unique n = same

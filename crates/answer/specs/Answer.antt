@@ -66,12 +66,12 @@ abbrev pub machine : ℕ
 machine = 15
 
 -- the refusal with a number
-abbrev pub refuse : ℕ → Refusal
-refuse k = record { number = k }
+abbrev pub refuseOf : ℕ → Refusal
+refuseOf k = record { number = k }
 
 -- the refusal at a field that ends at `end`, past the bytes
-unfoldable pub cut : ℕ → Refusal
-cut end = refuse short
+unfoldable pub cutOf : ℕ → Refusal
+cutOf end = refuseOf short
 
 -- What an answer stands for. For each enum `E` of answers, `answerE` in the specs of its crate says it of every case: the
 -- values that an accepting case carries, in the order of its fields, or the refusal.

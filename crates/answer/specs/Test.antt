@@ -7,7 +7,7 @@ use mathlib.Core.Bool.{Bool, true, false}
 use lib.ListN.{length}
 use lib.Dec.{leb}
 use Rattle.answer.specs.declared.Refusal.{Refusal}
-use Rattle.answer.specs.Answer.{refuse, limit}
+use Rattle.answer.specs.Answer.{refuseOf, limit}
 
 abbrev pub pick : {A : Type 0} → Bool → A → A → A
 pick true a b = a
@@ -15,7 +15,7 @@ pick false a b = b
 
 -- goes on where the test holds, else refuses with the number
 unfoldable pub must : {A : Type 0} → (Refusal → A) → Bool → ℕ → A → A
-must refusal test number on = pick test on (refusal (refuse number))
+must refusal test number on = pick test on (refusal (refuseOf number))
 
 -- "File: at most 268,435,456 bytes."
 abbrev pub fileLimit : ℕ

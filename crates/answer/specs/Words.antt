@@ -39,5 +39,5 @@ padded (suc w) end = 32 ∷ padded w end
 padded (suc w) (c then t) = code c ∷ padded w t
 
 -- the row for an answer
-unfoldable pub row : ℕ → List ℕ
-row n = padded 64 (textAt "no such answer" texts n)
+unfoldable pub wordsOf : ℕ → List ℕ
+wordsOf n = padded 64 (textAt "no such answer" texts n)

@@ -1,6 +1,6 @@
 // The answers of every door: their numbers, the refusal that carries one, and the words for each.
 ghost use mathlib.Core.Path.{_≡_};
-ghost use Rattle.answer.specs.Words.{row};
+ghost use Rattle.answer.specs.Words.{wordsOf};
 
 // Why a reader refused: one of the numbers below, never 0. Readers pass it on unchanged.
 pub struct Refusal {
@@ -46,7 +46,7 @@ const ANSWERS: usize = 16;
 
 // The words for a number, filled up with spaces; for a number above the last, the row after it.
 pub fn words(number: u8) -> [u8; 64]
-    ensures { λ r. ⌜ r ≡ row number ⌝ }
+    ensures { λ r. ⌜ r ≡ wordsOf number ⌝ }
 {
     let at = number as usize;
     if at < ANSWERS {

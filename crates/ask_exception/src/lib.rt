@@ -1,14 +1,14 @@
 // The requests of exception data: opening, the record at an index, and lookups.
-use exception::ExceptionData;
-use exception::Opened;
-use lookup::Holder;
-use lookup::Located;
-use lookup::Sought;
+use exception_data::ExceptionData;
+use exception_data::OpenExceptionData;
 use reply::Reply;
 use request::Request;
-use runtime::Found;
-use runtime::RuntimeFunction;
-use table::Checked;
+use runtime_function::ReadRuntimeFunction;
+use runtime_function::RuntimeFunction;
+use runtime_lookup::CheckAndFind;
+use runtime_lookup::FindFunction;
+use runtime_lookup::Holder;
+use runtime_table::CheckTable;
 
 pub fn answer_read(word: &[u8], r: Request, s: &[u8], out: &mut [u8; 65536], at: usize) -> Reply {
     if text::same(word, b"lookup") {
@@ -34,9 +34,9 @@ pub fn answer_read(word: &[u8], r: Request, s: &[u8], out: &mut [u8; 65536], at:
 
 fn exceptions(r: Request, s: &[u8], out: &mut [u8; 65536], at: usize) -> usize {
     if request::has(r, 0, true) {
-        return match exception::open(s) {
-            Opened::At(d) => put_data(d, out, at),
-            Opened::Refused(k) => reply::refused(out, at, k),
+        return match exception_data::open(s) {
+            OpenExceptionData::Value(d) => put_data(d, out, at),
+            OpenExceptionData::Refused(k) => reply::refused(out, at, k),
         };
     }
     reply::usage(out, at, r, b"exceptions BYTES")
@@ -54,17 +54,17 @@ fn put_data(d: ExceptionData, out: &mut [u8; 65536], at: usize) -> usize {
 
 fn record(r: Request, s: &[u8], out: &mut [u8; 65536], at: usize) -> usize {
     if request::has(r, 3, true) {
-        return match exception::record(
+        return match exception_data::get_function(
             s,
             request::place(r, 0),
             request::place(r, 1),
             request::place(r, 2),
         ) {
-            Found::At(e) => {
+            ReadRuntimeFunction::Value(e) => {
                 let end = put_record(e, out, at);
                 reply::end(out, end)
             }
-            Found::Refused(k) => reply::refused(out, at, k),
+            ReadRuntimeFunction::Refused(k) => reply::refused(out, at, k),
         };
     }
     reply::usage(out, at, r, b"record TABLE COUNT INDEX BYTES")
@@ -86,17 +86,17 @@ fn look_up(r: Request, s: &[u8], out: &mut [u8; 65536], at: usize) -> usize {
     let address = request::number(r, 2);
     if request::has(r, 3, true) {
         if address < 4294967296 {
-            return match lookup::find(
+            return match runtime_lookup::find_function(
                 s,
                 request::place(r, 0),
                 request::place(r, 1),
                 address as u32,
             ) {
-                Located::At(h, _) => {
+                FindFunction::Value(h, _) => {
                     let end = put_record(h.function, out, at);
                     reply::end(out, end)
                 }
-                Located::Refused(k) => reply::refused(out, at, k),
+                FindFunction::Refused(k) => reply::refused(out, at, k),
             };
         }
     }
@@ -112,18 +112,18 @@ fn look_up_reads(r: Request, s: &[u8], out: &mut [u8; 65536], at: usize) -> usiz
     let address = request::number(r, 2);
     if request::has(r, 3, true) {
         if address < 4294967296 {
-            return match lookup::find(
+            return match runtime_lookup::find_function(
                 s,
                 request::place(r, 0),
                 request::place(r, 1),
                 address as u32,
             ) {
-                Located::At(h, reads) => {
+                FindFunction::Value(h, reads) => {
                     let first = put_holder(h, out, at);
                     let last = reply::number(out, first, reads as u64);
                     reply::end(out, last)
                 }
-                Located::Refused(k) => reply::refused(out, at, k),
+                FindFunction::Refused(k) => reply::refused(out, at, k),
             };
         }
     }
@@ -139,17 +139,17 @@ fn look_up_checked(r: Request, s: &[u8], out: &mut [u8; 65536], at: usize) -> us
     let address = request::number(r, 2);
     if request::has(r, 3, true) {
         if address < 4294967296 {
-            return match lookup::find_checked(
+            return match runtime_lookup::check_and_find(
                 s,
                 request::place(r, 0),
                 request::place(r, 1),
                 address as u32,
             ) {
-                Sought::At(h) => {
+                CheckAndFind::Value(h) => {
                     let end = put_holder(h, out, at);
                     reply::end(out, end)
                 }
-                Sought::Refused(k) => reply::refused(out, at, k),
+                CheckAndFind::Refused(k) => reply::refused(out, at, k),
             };
         }
     }
@@ -163,12 +163,12 @@ fn look_up_checked(r: Request, s: &[u8], out: &mut [u8; 65536], at: usize) -> us
 
 fn table_check(r: Request, s: &[u8], out: &mut [u8; 65536], at: usize) -> usize {
     if request::has(r, 2, true) {
-        return match table::check(s, request::place(r, 0), request::place(r, 1)) {
-            Checked::Ordered => {
+        return match runtime_table::check(s, request::place(r, 0), request::place(r, 1)) {
+            CheckTable::Ordered => {
                 let end = reply::ok(out, at);
                 reply::end(out, end)
             }
-            Checked::Refused(k) => reply::refused(out, at, k),
+            CheckTable::Refused(k) => reply::refused(out, at, k),
         };
     }
     reply::usage(out, at, r, b"table_check TABLE COUNT BYTES")

@@ -1,7 +1,7 @@
 // The requests of fat Mach-O files.
-use fat::Opened;
-use fat_member::Found;
-use fat_member::Member;
+use fat::OpenFat;
+use fat_member::FatArch;
+use fat_member::ReadFatArch;
 use reply::Reply;
 use request::Request;
 
@@ -21,8 +21,8 @@ pub fn answer_read(word: &[u8], r: Request, s: &[u8], out: &mut [u8; 65536], at:
 fn fat_count(r: Request, s: &[u8], out: &mut [u8; 65536], at: usize) -> usize {
     if request::has(r, 0, true) {
         return match fat::open(s) {
-            Opened::Count(n) => reply::one(out, at, n as u64),
-            Opened::Refused(k) => reply::refused(out, at, k),
+            OpenFat::Value(n) => reply::one(out, at, n as u64),
+            OpenFat::Refused(k) => reply::refused(out, at, k),
         };
     }
     reply::usage(out, at, r, b"fat BYTES")
@@ -31,8 +31,8 @@ fn fat_count(r: Request, s: &[u8], out: &mut [u8; 65536], at: usize) -> usize {
 fn fat_member(r: Request, s: &[u8], out: &mut [u8; 65536], at: usize) -> usize {
     if request::has(r, 1, true) {
         return match fat::member_at(s, request::place(r, 0)) {
-            Found::At(m) => put_member(out, at, m),
-            Found::Refused(k) => reply::refused(out, at, k),
+            ReadFatArch::Value(m) => put_member(out, at, m),
+            ReadFatArch::Refused(k) => reply::refused(out, at, k),
         };
     }
     reply::usage(out, at, r, b"fat_member INDEX BYTES")
@@ -48,21 +48,21 @@ fn fat_bytes(r: Request, s: &[u8], out: &mut [u8; 65536], at: usize) -> usize {
 // Takes the part apart at once, so that no other function here holds a struct with a reference.
 fn put_part(s: &[u8], index: usize, out: &mut [u8; 65536], at: usize) -> usize {
     let p = fat::bytes_at(s, index);
-    say_part(p.found, p.bytes, out, at)
+    say_part(p.arch, p.bytes, out, at)
 }
 
-fn say_part(found: Found, bytes: &[u8], out: &mut [u8; 65536], at: usize) -> usize {
+fn say_part(found: ReadFatArch, bytes: &[u8], out: &mut [u8; 65536], at: usize) -> usize {
     match found {
-        Found::At(_) => {
+        ReadFatArch::Value(_) => {
             let first = reply::ok(out, at);
             let last = reply::bytes(out, first, bytes);
             reply::end(out, last)
         }
-        Found::Refused(k) => reply::refused(out, at, k),
+        ReadFatArch::Refused(k) => reply::refused(out, at, k),
     }
 }
 
-fn put_member(out: &mut [u8; 65536], at: usize, m: Member) -> usize {
+fn put_member(out: &mut [u8; 65536], at: usize, m: FatArch) -> usize {
     let mut end = reply::ok(out, at);
     end = reply::number(out, end, m.cputype as u64);
     end = reply::number(out, end, m.cpusubtype as u64);

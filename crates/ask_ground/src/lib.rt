@@ -1,17 +1,17 @@
 // The requests of the ground: fields, the cursor, the words of an answer, and the runtime record.
 use cursor::Cursor;
-use cursor::NextByte;
-use cursor::NextHalf;
-use cursor::NextLong;
-use cursor::NextWord;
-use fields::Byte;
-use fields::Half;
-use fields::Long;
-use fields::Word;
+use cursor::NextU8;
+use cursor::NextU16;
+use cursor::NextU32;
+use cursor::NextU64;
+use fields::ReadU8;
+use fields::ReadU16;
+use fields::ReadU32;
+use fields::ReadU64;
 use reply::Reply;
 use request::Request;
-use runtime::Found;
-use runtime::RuntimeFunction;
+use runtime_function::ReadRuntimeFunction;
+use runtime_function::RuntimeFunction;
 
 pub fn answer_read(word: &[u8], r: Request, s: &[u8], out: &mut [u8; 65536], at: usize) -> Reply {
     if text::same(word, b"u8") {
@@ -87,8 +87,8 @@ fn big(r: Request) -> bool {
 fn u8_at(r: Request, s: &[u8], out: &mut [u8; 65536], at: usize) -> usize {
     if request::has(r, 1, true) {
         return match fields::read_u8(s, request::place(r, 0)) {
-            Byte::Value(n) => reply::one(out, at, n as u64),
-            Byte::Refused(k) => reply::refused(out, at, k),
+            ReadU8::Value(n) => reply::one(out, at, n as u64),
+            ReadU8::Refused(k) => reply::refused(out, at, k),
         };
     }
     reply::usage(out, at, r, b"u8 AT BYTES")
@@ -97,8 +97,8 @@ fn u8_at(r: Request, s: &[u8], out: &mut [u8; 65536], at: usize) -> usize {
 fn u16_at(r: Request, s: &[u8], out: &mut [u8; 65536], at: usize) -> usize {
     if request::has(r, 2, true) {
         return match fields::read_u16(s, request::place(r, 1), big(r)) {
-            Half::Value(n) => reply::one(out, at, n as u64),
-            Half::Refused(k) => reply::refused(out, at, k),
+            ReadU16::Value(n) => reply::one(out, at, n as u64),
+            ReadU16::Refused(k) => reply::refused(out, at, k),
         };
     }
     reply::usage(out, at, r, b"u16 ORDER AT BYTES")
@@ -107,8 +107,8 @@ fn u16_at(r: Request, s: &[u8], out: &mut [u8; 65536], at: usize) -> usize {
 fn u32_at(r: Request, s: &[u8], out: &mut [u8; 65536], at: usize) -> usize {
     if request::has(r, 2, true) {
         return match fields::read_u32(s, request::place(r, 1), big(r)) {
-            Word::Value(n) => reply::one(out, at, n as u64),
-            Word::Refused(k) => reply::refused(out, at, k),
+            ReadU32::Value(n) => reply::one(out, at, n as u64),
+            ReadU32::Refused(k) => reply::refused(out, at, k),
         };
     }
     reply::usage(out, at, r, b"u32 ORDER AT BYTES")
@@ -117,8 +117,8 @@ fn u32_at(r: Request, s: &[u8], out: &mut [u8; 65536], at: usize) -> usize {
 fn u64_at(r: Request, s: &[u8], out: &mut [u8; 65536], at: usize) -> usize {
     if request::has(r, 2, true) {
         return match fields::read_u64(s, request::place(r, 1), big(r)) {
-            Long::Value(n) => reply::one(out, at, n),
-            Long::Refused(k) => reply::refused(out, at, k),
+            ReadU64::Value(n) => reply::one(out, at, n),
+            ReadU64::Refused(k) => reply::refused(out, at, k),
         };
     }
     reply::usage(out, at, r, b"u64 ORDER AT BYTES")
@@ -126,9 +126,9 @@ fn u64_at(r: Request, s: &[u8], out: &mut [u8; 65536], at: usize) -> usize {
 
 fn next8(r: Request, s: &[u8], out: &mut [u8; 65536], at: usize) -> usize {
     if request::has(r, 1, true) {
-        return match Cursor::new(request::place(r, 0)).u8(s) {
-            NextByte::Value(t) => reply::two(out, at, t.value as u64, t.next.at as u64),
-            NextByte::Refused(k) => reply::refused(out, at, k),
+        return match Cursor::new(request::place(r, 0)).next_u8(s) {
+            NextU8::Value(t) => reply::two(out, at, t.value as u64, t.next.at as u64),
+            NextU8::Refused(k) => reply::refused(out, at, k),
         };
     }
     reply::usage(out, at, r, b"next8 AT BYTES")
@@ -136,9 +136,9 @@ fn next8(r: Request, s: &[u8], out: &mut [u8; 65536], at: usize) -> usize {
 
 fn next16(r: Request, s: &[u8], out: &mut [u8; 65536], at: usize) -> usize {
     if request::has(r, 2, true) {
-        return match Cursor::new(request::place(r, 1)).u16(s, big(r)) {
-            NextHalf::Value(t) => reply::two(out, at, t.value as u64, t.next.at as u64),
-            NextHalf::Refused(k) => reply::refused(out, at, k),
+        return match Cursor::new(request::place(r, 1)).next_u16(s, big(r)) {
+            NextU16::Value(t) => reply::two(out, at, t.value as u64, t.next.at as u64),
+            NextU16::Refused(k) => reply::refused(out, at, k),
         };
     }
     reply::usage(out, at, r, b"next16 ORDER AT BYTES")
@@ -146,9 +146,9 @@ fn next16(r: Request, s: &[u8], out: &mut [u8; 65536], at: usize) -> usize {
 
 fn next32(r: Request, s: &[u8], out: &mut [u8; 65536], at: usize) -> usize {
     if request::has(r, 2, true) {
-        return match Cursor::new(request::place(r, 1)).u32(s, big(r)) {
-            NextWord::Value(t) => reply::two(out, at, t.value as u64, t.next.at as u64),
-            NextWord::Refused(k) => reply::refused(out, at, k),
+        return match Cursor::new(request::place(r, 1)).next_u32(s, big(r)) {
+            NextU32::Value(t) => reply::two(out, at, t.value as u64, t.next.at as u64),
+            NextU32::Refused(k) => reply::refused(out, at, k),
         };
     }
     reply::usage(out, at, r, b"next32 ORDER AT BYTES")
@@ -156,9 +156,9 @@ fn next32(r: Request, s: &[u8], out: &mut [u8; 65536], at: usize) -> usize {
 
 fn next64(r: Request, s: &[u8], out: &mut [u8; 65536], at: usize) -> usize {
     if request::has(r, 2, true) {
-        return match Cursor::new(request::place(r, 1)).u64(s, big(r)) {
-            NextLong::Value(t) => reply::two(out, at, t.value, t.next.at as u64),
-            NextLong::Refused(k) => reply::refused(out, at, k),
+        return match Cursor::new(request::place(r, 1)).next_u64(s, big(r)) {
+            NextU64::Value(t) => reply::two(out, at, t.value, t.next.at as u64),
+            NextU64::Refused(k) => reply::refused(out, at, k),
         };
     }
     reply::usage(out, at, r, b"next64 ORDER AT BYTES")
@@ -166,9 +166,9 @@ fn next64(r: Request, s: &[u8], out: &mut [u8; 65536], at: usize) -> usize {
 
 fn runtime_at(r: Request, s: &[u8], out: &mut [u8; 65536], at: usize) -> usize {
     if request::has(r, 1, true) {
-        return match runtime::read(s, request::place(r, 0)) {
-            Found::At(e) => put_runtime(out, at, e),
-            Found::Refused(k) => reply::refused(out, at, k),
+        return match runtime_function::read(s, request::place(r, 0)) {
+            ReadRuntimeFunction::Value(e) => put_runtime(out, at, e),
+            ReadRuntimeFunction::Refused(k) => reply::refused(out, at, k),
         };
     }
     reply::usage(out, at, r, b"runtime AT BYTES")
@@ -274,7 +274,7 @@ fn runtime_put(r: Request, s: &mut [u8], out: &mut [u8; 65536], at: usize) -> us
                         end: e as u32,
                         unwind: u as u32,
                     };
-                    let w = runtime::write(s, request::place(r, 0), record);
+                    let w = runtime_function::write(s, request::place(r, 0), record);
                     return reply::written(w, s, out, at);
                 }
             }

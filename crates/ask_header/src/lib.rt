@@ -1,14 +1,14 @@
 // The requests of the headers of an image.
-use coff::CoffHeader;
-use dos::DosHeader;
-use dos::Outcome;
-use fields::Written;
-use header::Header;
-use header::Opened;
-use optional::Directory;
-use optional::Exceptions;
-use optional::Form;
-use optional::OptionalHeader;
+use fields::WriteBytes;
+use pe_coff::CoffHeader;
+use pe_dos::DosHeader;
+use pe_dos::Outcome;
+use pe_header::Header;
+use pe_header::OpenHeader;
+use pe_optional::DataDirectory;
+use pe_optional::ExceptionDirectory;
+use pe_optional::OptionalHeader;
+use pe_optional::OptionalMagic;
 use reply::Reply;
 use request::Request;
 
@@ -43,9 +43,9 @@ pub fn answer_write(
 
 fn pe(r: Request, s: &[u8], out: &mut [u8; 65536], at: usize) -> usize {
     if request::has(r, 0, true) {
-        return match header::open(s) {
-            Opened::At(h) => put_header(h, out, at),
-            Opened::Refused(k) => reply::refused(out, at, k),
+        return match pe_header::open(s) {
+            OpenHeader::Value(h) => put_header(h, out, at),
+            OpenHeader::Refused(k) => reply::refused(out, at, k),
         };
     }
     reply::usage(out, at, r, b"pe BYTES")
@@ -58,7 +58,7 @@ fn put_header(h: Header, out: &mut [u8; 65536], at: usize) -> usize {
     end = reply::number(out, end, h.number_of_sections as u64);
     end = reply::number(out, end, h.optional_offset as u64);
     end = reply::number(out, end, h.optional_size as u64);
-    let form = h.form;
+    let form = h.magic;
     let exceptions = h.exceptions;
     end = put_fields(
         form,
@@ -74,10 +74,10 @@ fn put_header(h: Header, out: &mut [u8; 65536], at: usize) -> usize {
 
 // The magic number, the file alignment, the number of directories, and the exception directory, zeros where it is missing.
 fn put_fields(
-    form: Form,
+    form: OptionalMagic,
     alignment: u32,
     directories: u32,
-    exceptions: Exceptions,
+    exceptions: ExceptionDirectory,
     out: &mut [u8; 65536],
     at: usize,
 ) -> usize {
@@ -85,30 +85,30 @@ fn put_fields(
     end = reply::number(out, end, alignment as u64);
     end = reply::number(out, end, directories as u64);
     let d = directory(exceptions);
-    end = reply::number(out, end, d.address as u64);
+    end = reply::number(out, end, d.virtual_address as u64);
     reply::number(out, end, d.size as u64)
 }
 
-fn magic(form: Form) -> u64 {
+fn magic(form: OptionalMagic) -> u64 {
     match form {
-        Form::Pe32 => 0x10B,
-        Form::Pe32Plus => 0x20B,
+        OptionalMagic::Pe32 => 0x10B,
+        OptionalMagic::Pe32Plus => 0x20B,
     }
 }
 
-fn directory(exceptions: Exceptions) -> Directory {
+fn directory(exceptions: ExceptionDirectory) -> DataDirectory {
     match exceptions {
-        Exceptions::Missing => Directory {
-            address: 0,
+        ExceptionDirectory::Missing => DataDirectory {
+            virtual_address: 0,
             size: 0,
         },
-        Exceptions::At(d) => d,
+        ExceptionDirectory::Given(d) => d,
     }
 }
 
 fn dos_at(r: Request, s: &[u8], out: &mut [u8; 65536], at: usize) -> usize {
     if request::has(r, 1, true) {
-        let found = dos::read(s, request::place(r, 0));
+        let found = pe_dos::read(s, request::place(r, 0));
         let outcome = found.outcome;
         return match outcome {
             Outcome::Whole => put_dos(found.header, out, at),
@@ -183,12 +183,12 @@ fn dos_put(r: Request, s: &mut [u8], out: &mut [u8; 65536], at: usize) -> usize 
     let signature = request::number(r, 0);
     if request::has(r, 3, true) {
         if signature < 65536 {
-            let found = dos::read(s, request::place(r, 2));
+            let found = pe_dos::read(s, request::place(r, 2));
             let outcome = found.outcome;
             let header = found.header;
             return match outcome {
                 Outcome::Whole => write_dos(header, signature as u16, r, s, out, at),
-                Outcome::Refused(k) => reply::written(Written::Refused(k), s, out, at),
+                Outcome::Refused(k) => reply::written(WriteBytes::Refused(k), s, out, at),
             };
         }
     }
@@ -210,15 +210,15 @@ fn write_dos(
 ) -> usize {
     let mut header = h;
     header.signature = signature;
-    let w = dos::write(s, request::place(r, 1), header);
+    let w = pe_dos::write(s, request::place(r, 1), header);
     reply::written(w, s, out, at)
 }
 
 fn coff_at(r: Request, s: &[u8], out: &mut [u8; 65536], at: usize) -> usize {
     if request::has(r, 1, true) {
-        return match coff::read(s, request::place(r, 0)) {
-            coff::Found::At(h) => put_coff(h, out, at),
-            coff::Found::Refused(k) => reply::refused(out, at, k),
+        return match pe_coff::read(s, request::place(r, 0)) {
+            pe_coff::ReadCoffHeader::Value(h) => put_coff(h, out, at),
+            pe_coff::ReadCoffHeader::Refused(k) => reply::refused(out, at, k),
         };
     }
     reply::usage(out, at, r, b"coff AT BYTES")
@@ -238,16 +238,16 @@ fn put_coff(h: CoffHeader, out: &mut [u8; 65536], at: usize) -> usize {
 
 fn optional_at(r: Request, s: &[u8], out: &mut [u8; 65536], at: usize) -> usize {
     if request::has(r, 2, true) {
-        return match optional::read(s, request::place(r, 0), request::place(r, 1)) {
-            optional::Found::At(h) => put_optional(h, out, at),
-            optional::Found::Refused(k) => reply::refused(out, at, k),
+        return match pe_optional::read(s, request::place(r, 0), request::place(r, 1)) {
+            pe_optional::ReadOptionalHeader::Value(h) => put_optional(h, out, at),
+            pe_optional::ReadOptionalHeader::Refused(k) => reply::refused(out, at, k),
         };
     }
     reply::usage(out, at, r, b"optional AT SIZE BYTES")
 }
 
 fn put_optional(h: OptionalHeader, out: &mut [u8; 65536], at: usize) -> usize {
-    let form = h.form;
+    let form = h.magic;
     let exceptions = h.exceptions;
     let first = reply::ok(out, at);
     let last = put_fields(

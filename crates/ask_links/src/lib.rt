@@ -2,18 +2,18 @@
 use answer::Refusal;
 use ask_unwind::put_entry;
 use ask_unwind::put_info;
-use linked_codes::Walked;
-use links::NextInfo;
-use links::Reach;
-use links::Reached;
-use links::Sections;
 use reply::Reply;
 use request::Request;
-use runtime::Found;
-use runtime::RuntimeFunction;
-use scope::Counted;
-use unwind::Parsed;
-use unwind::UnwindInfo;
+use runtime_function::ReadRuntimeFunction;
+use runtime_function::RuntimeFunction;
+use scope_table::CountScopes;
+use unwind_chain::CountAllCodes;
+use unwind_info::ReadInfo;
+use unwind_info::UnwindInfo;
+use unwind_links::NextInfo;
+use unwind_links::ReachInfo;
+use unwind_links::ReachedInfo;
+use unwind_links::Sections;
 
 pub fn answer_read(word: &[u8], r: Request, s: &[u8], out: &mut [u8; 65536], at: usize) -> Reply {
     if text::same(word, b"slots") {
@@ -43,9 +43,9 @@ pub fn answer_read(word: &[u8], r: Request, s: &[u8], out: &mut [u8; 65536], at:
 // What `unwind` leaves out of an info.
 fn slots(r: Request, s: &[u8], out: &mut [u8; 65536], at: usize) -> usize {
     if request::has(r, 1, true) {
-        return match unwind::info(s, request::place(r, 0)) {
-            Parsed::Info(i) => put_slots(i, out, at),
-            Parsed::Refused(k) => reply::refused(out, at, k),
+        return match unwind_info::read_info(s, request::place(r, 0)) {
+            ReadInfo::Value(i) => put_slots(i, out, at),
+            ReadInfo::Refused(k) => reply::refused(out, at, k),
         };
     }
     reply::usage(out, at, r, b"slots AT BYTES")
@@ -79,9 +79,9 @@ fn function(r: Request) -> RuntimeFunction {
 
 fn record_at(r: Request, s: &[u8], out: &mut [u8; 65536], at: usize) -> usize {
     if request::has(r, 4, true) {
-        return match links::record_at(s, sections(r), request::word(r, 3)) {
-            Found::At(e) => put_record(e, out, at),
-            Found::Refused(k) => reply::refused(out, at, k),
+        return match unwind_links::record_at(s, sections(r), request::word(r, 3)) {
+            ReadRuntimeFunction::Value(e) => put_record(e, out, at),
+            ReadRuntimeFunction::Refused(k) => reply::refused(out, at, k),
         };
     }
     reply::usage(out, at, r, b"record_at TABLE COUNT ALIGNMENT ADDRESS BYTES")
@@ -98,25 +98,25 @@ fn put_record(e: RuntimeFunction, out: &mut [u8; 65536], at: usize) -> usize {
 // The info that is reached from a record after `more` chained infos.
 fn reached(s: &[u8], from: Sections, f: RuntimeFunction, more: u64) -> NextInfo {
     let mut left = more;
-    let mut here = match links::first(s, from, f) {
-        Reach::Info(i) => i,
-        Reach::Refused(k) => return NextInfo::Refused(k),
+    let mut here = match unwind_links::first_info(s, from, f) {
+        ReachInfo::Value(i) => i,
+        ReachInfo::Refused(k) => return NextInfo::Refused(k),
     };
     while left > 0 {
-        here = match links::next(s, from, here) {
-            NextInfo::Info(i) => i,
+        here = match unwind_links::next_info(s, from, here) {
+            NextInfo::Value(i) => i,
             NextInfo::End => return NextInfo::End,
             NextInfo::Refused(k) => return NextInfo::Refused(k),
         };
         left -= 1;
     }
-    NextInfo::Info(here)
+    NextInfo::Value(here)
 }
 
 fn info_of(r: Request, s: &[u8], out: &mut [u8; 65536], at: usize) -> usize {
     if request::has(r, 7, true) {
         return match reached(s, sections(r), function(r), request::number(r, 6)) {
-            NextInfo::Info(i) => put_reached_info(i, out, at),
+            NextInfo::Value(i) => put_reached_info(i, out, at),
             NextInfo::End => past_chain(out, at),
             NextInfo::Refused(k) => reply::refused(out, at, k),
         };
@@ -140,7 +140,7 @@ fn past_chain(out: &mut [u8; 65536], at: usize) -> usize {
     )
 }
 
-fn put_reached_info(i: Reached, out: &mut [u8; 65536], at: usize) -> usize {
+fn put_reached_info(i: ReachedInfo, out: &mut [u8; 65536], at: usize) -> usize {
     let info = i.info;
     put_info(info, out, at)
 }
@@ -148,7 +148,7 @@ fn put_reached_info(i: Reached, out: &mut [u8; 65536], at: usize) -> usize {
 fn link_of(r: Request, s: &[u8], out: &mut [u8; 65536], at: usize) -> usize {
     if request::has(r, 7, true) {
         return match reached(s, sections(r), function(r), request::number(r, 6)) {
-            NextInfo::Info(i) => put_link(i, out, at),
+            NextInfo::Value(i) => put_link(i, out, at),
             NextInfo::End => past_chain(out, at),
             NextInfo::Refused(k) => reply::refused(out, at, k),
         };
@@ -161,7 +161,7 @@ fn link_of(r: Request, s: &[u8], out: &mut [u8; 65536], at: usize) -> usize {
     )
 }
 
-fn put_link(i: Reached, out: &mut [u8; 65536], at: usize) -> usize {
+fn put_link(i: ReachedInfo, out: &mut [u8; 65536], at: usize) -> usize {
     let mut end = reply::ok(out, at);
     end = reply::number(out, end, i.begin as u64);
     end = reply::number(out, end, i.offset as u64);
@@ -171,9 +171,9 @@ fn put_link(i: Reached, out: &mut [u8; 65536], at: usize) -> usize {
 
 fn all_codes(r: Request, s: &[u8], out: &mut [u8; 65536], at: usize) -> usize {
     if request::has(r, 6, true) {
-        return match linked_codes::all_codes(s, sections(r), function(r)) {
-            Walked::Codes(t) => reply::two(out, at, t.links as u64, t.codes as u64),
-            Walked::Refused(k) => reply::refused(out, at, k),
+        return match unwind_chain::count_all_codes(s, sections(r), function(r)) {
+            CountAllCodes::Value(t) => reply::two(out, at, t.links as u64, t.codes as u64),
+            CountAllCodes::Refused(k) => reply::refused(out, at, k),
         };
     }
     reply::usage(
@@ -186,9 +186,9 @@ fn all_codes(r: Request, s: &[u8], out: &mut [u8; 65536], at: usize) -> usize {
 
 fn scopes_at(r: Request, s: &[u8], out: &mut [u8; 65536], at: usize) -> usize {
     if request::has(r, 1, true) {
-        return match handler::count_at(s, request::place(r, 0)) {
-            Counted::Entries(n) => reply::one(out, at, n as u64),
-            Counted::Refused(k) => reply::refused(out, at, k),
+        return match scope_table::count_at(s, request::place(r, 0)) {
+            CountScopes::Value(n) => reply::one(out, at, n as u64),
+            CountScopes::Refused(k) => reply::refused(out, at, k),
         };
     }
     reply::usage(out, at, r, b"scopes_at AT BYTES")
@@ -196,9 +196,9 @@ fn scopes_at(r: Request, s: &[u8], out: &mut [u8; 65536], at: usize) -> usize {
 
 fn scope_at(r: Request, s: &[u8], out: &mut [u8; 65536], at: usize) -> usize {
     if request::has(r, 2, true) {
-        return match handler::entry_at(s, request::place(r, 0), request::place(r, 1)) {
-            scope::Found::At(e) => put_entry(e, out, at),
-            scope::Found::Refused(k) => reply::refused(out, at, k),
+        return match scope_table::entry_at(s, request::place(r, 0), request::place(r, 1)) {
+            scope_table::ReadScopeTableEntry::Value(e) => put_entry(e, out, at),
+            scope_table::ReadScopeTableEntry::Refused(k) => reply::refused(out, at, k),
         };
     }
     reply::usage(out, at, r, b"scope_at AT INDEX BYTES")

@@ -1,9 +1,9 @@
 // The requests of PE files: sections and mapping.
-use mapping::Mapped;
+use pe_mapping::FindOffset;
+use pe_section::ReadSectionTable;
+use pe_section::SectionTable;
 use reply::Reply;
 use request::Request;
-use section::Found;
-use section::SectionHeader;
 
 pub fn answer_read(word: &[u8], r: Request, s: &[u8], out: &mut [u8; 65536], at: usize) -> Reply {
     if text::same(word, b"section") {
@@ -17,20 +17,20 @@ pub fn answer_read(word: &[u8], r: Request, s: &[u8], out: &mut [u8; 65536], at:
 
 fn section_at(r: Request, s: &[u8], out: &mut [u8; 65536], at: usize) -> usize {
     if request::has(r, 3, true) {
-        return match section::section(
+        return match pe_section::get_row(
             s,
             request::place(r, 0),
             request::place(r, 1),
             request::place(r, 2),
         ) {
-            Found::At(h) => put_row(out, at, h),
-            Found::Refused(k) => reply::refused(out, at, k),
+            ReadSectionTable::Value(h) => put_row(out, at, h),
+            ReadSectionTable::Refused(k) => reply::refused(out, at, k),
         };
     }
     reply::usage(out, at, r, b"section TABLE COUNT INDEX BYTES")
 }
 
-fn put_row(out: &mut [u8; 65536], at: usize, h: SectionHeader) -> usize {
+fn put_row(out: &mut [u8; 65536], at: usize, h: SectionTable) -> usize {
     let name = h.name_bytes();
     let mut end = reply::ok(out, at);
     end = reply::bytes(out, end, &name);
@@ -41,7 +41,7 @@ fn put_row(out: &mut [u8; 65536], at: usize, h: SectionHeader) -> usize {
     put_rest(out, end, h)
 }
 
-fn put_rest(out: &mut [u8; 65536], at: usize, h: SectionHeader) -> usize {
+fn put_rest(out: &mut [u8; 65536], at: usize, h: SectionTable) -> usize {
     let mut end = reply::number(out, at, h.pointer_to_relocations as u64);
     end = reply::number(out, end, h.pointer_to_linenumbers as u64);
     end = reply::number(out, end, h.number_of_relocations as u64);
@@ -54,15 +54,15 @@ fn find_offset(r: Request, s: &[u8], out: &mut [u8; 65536], at: usize) -> usize 
     let alignment = request::number(r, 2);
     if request::has(r, 4, true) {
         if alignment < 4294967296 {
-            return match mapping::find_offset(
+            return match pe_mapping::find_offset(
                 s,
                 request::place(r, 0),
                 request::place(r, 1),
                 alignment as u32,
                 request::number(r, 3),
             ) {
-                Mapped::At(offset) => reply::one(out, at, offset),
-                Mapped::Refused(k) => reply::refused(out, at, k),
+                FindOffset::Value(offset) => reply::one(out, at, offset),
+                FindOffset::Refused(k) => reply::refused(out, at, k),
             };
         }
     }

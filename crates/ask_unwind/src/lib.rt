@@ -1,20 +1,20 @@
 // The requests of unwind info, operations and scope tables.
-use codes::Checked;
-use codes::Coded;
-use operation::StackFrameOffset;
-use operation::UnwindCode;
-use operation::UnwindOperation;
-use register::Register;
 use reply::Reply;
 use request::Request;
-use runtime::RuntimeFunction;
-use scope::Counted;
-use scope::Found;
-use scope::ScopeTableEntry;
-use unwind::Follows;
-use unwind::HandlerKind;
-use unwind::Parsed;
-use unwind::UnwindInfo;
+use runtime_function::RuntimeFunction;
+use scope_table::CountScopes;
+use scope_table::ReadScopeTableEntry;
+use scope_table::ScopeTableEntry;
+use unwind_codes::CheckInfo;
+use unwind_codes::ReadCode;
+use unwind_info::Follows;
+use unwind_info::HandlerKind;
+use unwind_info::ReadInfo;
+use unwind_info::UnwindInfo;
+use unwind_operation::Register;
+use unwind_operation::StackFrameOffset;
+use unwind_operation::UnwindCode;
+use unwind_operation::UnwindOperation;
 
 pub fn answer_read(word: &[u8], r: Request, s: &[u8], out: &mut [u8; 65536], at: usize) -> Reply {
     if text::same(word, b"unwind") {
@@ -53,9 +53,9 @@ pub fn answer_write(
 
 fn unwind_at(r: Request, s: &[u8], out: &mut [u8; 65536], at: usize) -> usize {
     if request::has(r, 1, true) {
-        return match unwind::info(s, request::place(r, 0)) {
-            Parsed::Info(i) => put_info(i, out, at),
-            Parsed::Refused(k) => reply::refused(out, at, k),
+        return match unwind_info::read_info(s, request::place(r, 0)) {
+            ReadInfo::Value(i) => put_info(i, out, at),
+            ReadInfo::Refused(k) => reply::refused(out, at, k),
         };
     }
     reply::usage(out, at, r, b"unwind AT BYTES")
@@ -108,9 +108,9 @@ fn kind_number(kind: HandlerKind) -> u64 {
 
 fn codes_of(r: Request, s: &[u8], out: &mut [u8; 65536], at: usize) -> usize {
     if request::has(r, 1, true) {
-        return match codes::checked_info(s, request::place(r, 0)) {
-            Checked::Info(c) => reply::one(out, at, c.codes as u64),
-            Checked::Refused(k) => reply::refused(out, at, k),
+        return match unwind_codes::check_info(s, request::place(r, 0)) {
+            CheckInfo::Value(c) => reply::one(out, at, c.codes as u64),
+            CheckInfo::Refused(k) => reply::refused(out, at, k),
         };
     }
     reply::usage(out, at, r, b"codes AT BYTES")
@@ -118,9 +118,9 @@ fn codes_of(r: Request, s: &[u8], out: &mut [u8; 65536], at: usize) -> usize {
 
 fn code_at(r: Request, s: &[u8], out: &mut [u8; 65536], at: usize) -> usize {
     if request::has(r, 2, true) {
-        return match codes::code(s, request::place(r, 0), request::place(r, 1)) {
-            Coded::Code(c) => put_code(c, out, at),
-            Coded::Refused(k) => reply::refused(out, at, k),
+        return match unwind_codes::read_code(s, request::place(r, 0), request::place(r, 1)) {
+            ReadCode::Value(c) => put_code(c, out, at),
+            ReadCode::Refused(k) => reply::refused(out, at, k),
         };
     }
     reply::usage(out, at, r, b"code AT INDEX BYTES")
@@ -183,9 +183,9 @@ fn put_save(
 
 fn scopes(r: Request, s: &[u8], out: &mut [u8; 65536], at: usize) -> usize {
     if request::has(r, 0, true) {
-        return match scope::count(s) {
-            Counted::Entries(n) => reply::one(out, at, n as u64),
-            Counted::Refused(k) => reply::refused(out, at, k),
+        return match scope_table::count_in(s) {
+            CountScopes::Value(n) => reply::one(out, at, n as u64),
+            CountScopes::Refused(k) => reply::refused(out, at, k),
         };
     }
     reply::usage(out, at, r, b"scopes BYTES")
@@ -193,9 +193,9 @@ fn scopes(r: Request, s: &[u8], out: &mut [u8; 65536], at: usize) -> usize {
 
 fn scope_at(r: Request, s: &[u8], out: &mut [u8; 65536], at: usize) -> usize {
     if request::has(r, 1, true) {
-        return match scope::entry(s, request::place(r, 0)) {
-            Found::At(e) => put_entry(e, out, at),
-            Found::Refused(k) => reply::refused(out, at, k),
+        return match scope_table::entry_in(s, request::place(r, 0)) {
+            ReadScopeTableEntry::Value(e) => put_entry(e, out, at),
+            ReadScopeTableEntry::Refused(k) => reply::refused(out, at, k),
         };
     }
     reply::usage(out, at, r, b"scope INDEX BYTES")
@@ -231,7 +231,7 @@ fn scope_put(r: Request, s: &mut [u8], out: &mut [u8; 65536], at: usize) -> usiz
             handler: request::word(r, 3),
             target: request::word(r, 4),
         };
-        let w = scope::write(s, request::place(r, 0), e);
+        let w = scope_table::write(s, request::place(r, 0), e);
         return reply::written(w, s, out, at);
     }
     reply::usage(

@@ -1,8 +1,8 @@
 // The requests of GNU symbol version tables. Lists are rows of numbers in an array of this crate's callers.
 use reply::Reply;
 use request::Request;
-use version_section::Counted;
-use versym::Symbol;
+use version_section::CountEntries;
+use versym::ReadVersym;
 use versym::Versym;
 
 // The most numbers that a list can have here.
@@ -47,15 +47,15 @@ fn versym_count(r: Request, s: &[u8], out: &mut [u8; 65536], at: usize) -> usize
 
 fn versym_at(r: Request, s: &[u8], out: &mut [u8; 65536], at: usize) -> usize {
     if request::has(r, 4, true) {
-        return match versym::entry(
+        return match versym::get_at(
             s,
             request::place(r, 1),
             request::place(r, 2),
             request::place(r, 3),
             big(r),
         ) {
-            Symbol::At(v) => put_versym(v, out, at),
-            Symbol::Refused(k) => reply::refused(out, at, k),
+            ReadVersym::Value(v) => put_versym(v, out, at),
+            ReadVersym::Refused(k) => reply::refused(out, at, k),
         };
     }
     reply::usage(out, at, r, b"versym ORDER START SIZE INDEX BYTES")
@@ -191,20 +191,20 @@ fn element(rows: &[u32], from: usize, place: usize) -> u32 {
 }
 
 // Whether the list has an entry with that index.
-fn listed(found: Counted, index: usize) -> bool {
+fn listed(found: CountEntries, index: usize) -> bool {
     match found {
-        Counted::Whole(n) => index < n,
-        Counted::Cut(n) => index < n,
-        Counted::Refused(_) => false,
+        CountEntries::Whole(n) => index < n,
+        CountEntries::Cut(n) => index < n,
+        CountEntries::Refused(_) => false,
     }
 }
 
 // The answer where an entry was asked for that is not listed.
-fn put_missing(found: Counted, out: &mut [u8; 65536], at: usize) -> usize {
+fn put_missing(found: CountEntries, out: &mut [u8; 65536], at: usize) -> usize {
     match found {
-        Counted::Whole(_) => reply::refused(out, at, missing()),
-        Counted::Cut(_) => reply::refused(out, at, missing()),
-        Counted::Refused(k) => reply::refused(out, at, k),
+        CountEntries::Whole(_) => reply::refused(out, at, missing()),
+        CountEntries::Cut(_) => reply::refused(out, at, missing()),
+        CountEntries::Refused(k) => reply::refused(out, at, k),
     }
 }
 
@@ -215,35 +215,41 @@ fn missing() -> answer::Refusal {
 }
 
 // The number of entries, without the end of the line; a refusal has its end.
-fn put_number(found: Counted, out: &mut [u8; 65536], at: usize) -> usize {
+fn put_number(found: CountEntries, out: &mut [u8; 65536], at: usize) -> usize {
     match found {
-        Counted::Whole(n) => {
+        CountEntries::Whole(n) => {
             let end = text::put(out, at, b"ok");
             reply::number(out, end, n as u64)
         }
-        Counted::Cut(n) => {
+        CountEntries::Cut(n) => {
             let end = text::put(out, at, b"part");
             reply::number(out, end, n as u64)
         }
-        Counted::Refused(k) => reply::refusal(out, at, k),
+        CountEntries::Refused(k) => reply::refusal(out, at, k),
     }
 }
 
-fn put_count(found: Counted, out: &mut [u8; 65536], at: usize) -> usize {
+fn put_count(found: CountEntries, out: &mut [u8; 65536], at: usize) -> usize {
     let end = put_number(found, out, at);
     reply::end(out, end)
 }
 
-fn entries(found: Counted) -> usize {
+fn entries(found: CountEntries) -> usize {
     match found {
-        Counted::Whole(n) => n,
-        Counted::Cut(n) => n,
-        Counted::Refused(_) => 0,
+        CountEntries::Whole(n) => n,
+        CountEntries::Cut(n) => n,
+        CountEntries::Refused(_) => 0,
     }
 }
 
 // The number of entries, and the numbers of each but its place.
-fn put_rows(found: Counted, rows: &[u32], width: usize, out: &mut [u8; 65536], at: usize) -> usize {
+fn put_rows(
+    found: CountEntries,
+    rows: &[u32],
+    width: usize,
+    out: &mut [u8; 65536],
+    at: usize,
+) -> usize {
     let first = put_number(found, out, at);
     let last = put_list(entries(found), rows, width, out, first);
     reply::end(out, last)

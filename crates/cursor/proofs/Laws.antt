@@ -8,21 +8,25 @@ use lib.ListN.{length}
 use Rattle.answer.specs.declared.Refusal.{Refusal}
 use Rattle.fields.specs.Number.{numberAt}
 use Rattle.fields.proofs.Laws.{Missed, missed-of, field-value, field-cut, told-value, told-cut}
-use Rattle.cursor.specs.Next.{nextOf, takenByte, takenHalf, takenWord, takenLong}
-use Rattle.cursor.specs.Answers.{answerNextByte, answerNextHalf, answerNextWord, answerNextLong}
+use Rattle.cursor.specs.Next.{newOf, nextOf, takenU8, takenU16, takenU32, takenU64}
+use Rattle.cursor.specs.Answers.{answerNextU8, answerNextU16, answerNextU32, answerNextU64}
 use Rattle.cursor.specs.declared.Cursor.{Cursor}
-use Rattle.cursor.specs.declared.TakenByte.{TakenByte}
-use Rattle.cursor.specs.declared.NextByte.{NextByte}
-use Rattle.cursor.specs.declared.NextByte.the-variants as byte
-use Rattle.cursor.specs.declared.TakenHalf.{TakenHalf}
-use Rattle.cursor.specs.declared.NextHalf.{NextHalf}
-use Rattle.cursor.specs.declared.NextHalf.the-variants as half
-use Rattle.cursor.specs.declared.TakenWord.{TakenWord}
-use Rattle.cursor.specs.declared.NextWord.{NextWord}
-use Rattle.cursor.specs.declared.NextWord.the-variants as word
-use Rattle.cursor.specs.declared.TakenLong.{TakenLong}
-use Rattle.cursor.specs.declared.NextLong.{NextLong}
-use Rattle.cursor.specs.declared.NextLong.the-variants as long
+use Rattle.cursor.specs.declared.TakenU8.{TakenU8}
+use Rattle.cursor.specs.declared.NextU8.{NextU8}
+use Rattle.cursor.specs.declared.NextU8.the-variants as byte
+use Rattle.cursor.specs.declared.TakenU16.{TakenU16}
+use Rattle.cursor.specs.declared.NextU16.{NextU16}
+use Rattle.cursor.specs.declared.NextU16.the-variants as half
+use Rattle.cursor.specs.declared.TakenU32.{TakenU32}
+use Rattle.cursor.specs.declared.NextU32.{NextU32}
+use Rattle.cursor.specs.declared.NextU32.the-variants as word
+use Rattle.cursor.specs.declared.TakenU64.{TakenU64}
+use Rattle.cursor.specs.declared.NextU64.{NextU64}
+use Rattle.cursor.specs.declared.NextU64.the-variants as long
+
+-- where a new cursor stands
+pub new-at : {c : Cursor} {at : ℕ} → c ≡ newOf at → c .at ≡ at
+new-at e = ap (λ (c : Cursor). c .at) e
 
 -- from the code's side
 module _ {A : Type 0} (taken : ℕ → Cursor → A) (refusal : Refusal → A) (big : Bool) (w : ℕ) (s : List ℕ) (at : ℕ) where
@@ -49,46 +53,46 @@ two-second e = cc
 took-of : {big : Bool} {w : ℕ} {s : List ℕ} {at n next : ℕ} → (at + w ≤ length s) × (n ∷ next ∷ [] ≡ numberAt big w s at ∷ (at + w) ∷ []) → Took big w s at n next
 took-of p = record { inside = p .0; value = two-first (p .1); past = two-second (p .1) }
 
-module _ (s : List ℕ) (at : ℕ) {r : NextByte} (e : r ≡ nextOf takenByte byte.Refused false 1 s at) where
-  pub byte-took : {t : TakenByte} → r ≡ byte.Value t → Took false 1 s at (t .value) (t .next .at)
+module _ (s : List ℕ) (at : ℕ) {r : NextU8} (e : r ≡ nextOf takenU8 byte.Refused false 1 s at) where
+  pub u8-took : {t : TakenU8} → r ≡ byte.Value t → Took false 1 s at (t .value) (t .next .at)
   unfolding nextOf
-  byte-took f =
-      took-of (told-value (λ n. takenByte n (record { at = at + 1 })) byte.Refused answerNextByte (λ n. n ∷ (at + 1) ∷ []) (λ n. refl) (λ k. refl) false 1 s at e (ap answerNextByte f))
+  u8-took f =
+      took-of (told-value (λ n. takenU8 n (record { at = at + 1 })) byte.Refused answerNextU8 (λ n. n ∷ (at + 1) ∷ []) (λ n. refl) (λ k. refl) false 1 s at e (ap answerNextU8 f))
 
-  pub byte-cut : {k : Refusal} → r ≡ byte.Refused k → Missed 1 s at k
+  pub u8-cut : {k : Refusal} → r ≡ byte.Refused k → Missed 1 s at k
   unfolding nextOf
-  byte-cut f =
-      missed-of (told-cut (λ n. takenByte n (record { at = at + 1 })) byte.Refused answerNextByte (λ n. n ∷ (at + 1) ∷ []) (λ n. refl) (λ k. refl) false 1 s at e (ap answerNextByte f))
+  u8-cut f =
+      missed-of (told-cut (λ n. takenU8 n (record { at = at + 1 })) byte.Refused answerNextU8 (λ n. n ∷ (at + 1) ∷ []) (λ n. refl) (λ k. refl) false 1 s at e (ap answerNextU8 f))
 
-module _ (big : Bool) (s : List ℕ) (at : ℕ) {r : NextHalf} (e : r ≡ nextOf takenHalf half.Refused big 2 s at) where
-  pub half-took : {t : TakenHalf} → r ≡ half.Value t → Took big 2 s at (t .value) (t .next .at)
+module _ (big : Bool) (s : List ℕ) (at : ℕ) {r : NextU16} (e : r ≡ nextOf takenU16 half.Refused big 2 s at) where
+  pub u16-took : {t : TakenU16} → r ≡ half.Value t → Took big 2 s at (t .value) (t .next .at)
   unfolding nextOf
-  half-took f =
-      took-of (told-value (λ n. takenHalf n (record { at = at + 2 })) half.Refused answerNextHalf (λ n. n ∷ (at + 2) ∷ []) (λ n. refl) (λ k. refl) big 2 s at e (ap answerNextHalf f))
+  u16-took f =
+      took-of (told-value (λ n. takenU16 n (record { at = at + 2 })) half.Refused answerNextU16 (λ n. n ∷ (at + 2) ∷ []) (λ n. refl) (λ k. refl) big 2 s at e (ap answerNextU16 f))
 
-  pub half-cut : {k : Refusal} → r ≡ half.Refused k → Missed 2 s at k
+  pub u16-cut : {k : Refusal} → r ≡ half.Refused k → Missed 2 s at k
   unfolding nextOf
-  half-cut f =
-      missed-of (told-cut (λ n. takenHalf n (record { at = at + 2 })) half.Refused answerNextHalf (λ n. n ∷ (at + 2) ∷ []) (λ n. refl) (λ k. refl) big 2 s at e (ap answerNextHalf f))
+  u16-cut f =
+      missed-of (told-cut (λ n. takenU16 n (record { at = at + 2 })) half.Refused answerNextU16 (λ n. n ∷ (at + 2) ∷ []) (λ n. refl) (λ k. refl) big 2 s at e (ap answerNextU16 f))
 
-module _ (big : Bool) (s : List ℕ) (at : ℕ) {r : NextWord} (e : r ≡ nextOf takenWord word.Refused big 4 s at) where
-  pub word-took : {t : TakenWord} → r ≡ word.Value t → Took big 4 s at (t .value) (t .next .at)
+module _ (big : Bool) (s : List ℕ) (at : ℕ) {r : NextU32} (e : r ≡ nextOf takenU32 word.Refused big 4 s at) where
+  pub u32-took : {t : TakenU32} → r ≡ word.Value t → Took big 4 s at (t .value) (t .next .at)
   unfolding nextOf
-  word-took f =
-      took-of (told-value (λ n. takenWord n (record { at = at + 4 })) word.Refused answerNextWord (λ n. n ∷ (at + 4) ∷ []) (λ n. refl) (λ k. refl) big 4 s at e (ap answerNextWord f))
+  u32-took f =
+      took-of (told-value (λ n. takenU32 n (record { at = at + 4 })) word.Refused answerNextU32 (λ n. n ∷ (at + 4) ∷ []) (λ n. refl) (λ k. refl) big 4 s at e (ap answerNextU32 f))
 
-  pub word-cut : {k : Refusal} → r ≡ word.Refused k → Missed 4 s at k
+  pub u32-cut : {k : Refusal} → r ≡ word.Refused k → Missed 4 s at k
   unfolding nextOf
-  word-cut f =
-      missed-of (told-cut (λ n. takenWord n (record { at = at + 4 })) word.Refused answerNextWord (λ n. n ∷ (at + 4) ∷ []) (λ n. refl) (λ k. refl) big 4 s at e (ap answerNextWord f))
+  u32-cut f =
+      missed-of (told-cut (λ n. takenU32 n (record { at = at + 4 })) word.Refused answerNextU32 (λ n. n ∷ (at + 4) ∷ []) (λ n. refl) (λ k. refl) big 4 s at e (ap answerNextU32 f))
 
-module _ (big : Bool) (s : List ℕ) (at : ℕ) {r : NextLong} (e : r ≡ nextOf takenLong long.Refused big 8 s at) where
-  pub long-took : {t : TakenLong} → r ≡ long.Value t → Took big 8 s at (t .value) (t .next .at)
+module _ (big : Bool) (s : List ℕ) (at : ℕ) {r : NextU64} (e : r ≡ nextOf takenU64 long.Refused big 8 s at) where
+  pub u64-took : {t : TakenU64} → r ≡ long.Value t → Took big 8 s at (t .value) (t .next .at)
   unfolding nextOf
-  long-took f =
-      took-of (told-value (λ n. takenLong n (record { at = at + 8 })) long.Refused answerNextLong (λ n. n ∷ (at + 8) ∷ []) (λ n. refl) (λ k. refl) big 8 s at e (ap answerNextLong f))
+  u64-took f =
+      took-of (told-value (λ n. takenU64 n (record { at = at + 8 })) long.Refused answerNextU64 (λ n. n ∷ (at + 8) ∷ []) (λ n. refl) (λ k. refl) big 8 s at e (ap answerNextU64 f))
 
-  pub long-cut : {k : Refusal} → r ≡ long.Refused k → Missed 8 s at k
+  pub u64-cut : {k : Refusal} → r ≡ long.Refused k → Missed 8 s at k
   unfolding nextOf
-  long-cut f =
-      missed-of (told-cut (λ n. takenLong n (record { at = at + 8 })) long.Refused answerNextLong (λ n. n ∷ (at + 8) ∷ []) (λ n. refl) (λ k. refl) big 8 s at e (ap answerNextLong f))
+  u64-cut f =
+      missed-of (told-cut (λ n. takenU64 n (record { at = at + 8 })) long.Refused answerNextU64 (λ n. n ∷ (at + 8) ∷ []) (λ n. refl) (λ k. refl) big 8 s at e (ap answerNextU64 f))

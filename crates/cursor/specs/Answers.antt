@@ -2,27 +2,27 @@
 -- Assumes nothing.
 use mathlib.Core.List.{[], _∷_}
 use Rattle.answer.specs.Answer.{Answer, accepted, refused}
-use Rattle.cursor.specs.declared.NextByte.{NextByte}
-use Rattle.cursor.specs.declared.NextByte.the-variants as byte
-use Rattle.cursor.specs.declared.NextHalf.{NextHalf}
-use Rattle.cursor.specs.declared.NextHalf.the-variants as half
-use Rattle.cursor.specs.declared.NextWord.{NextWord}
-use Rattle.cursor.specs.declared.NextWord.the-variants as word
-use Rattle.cursor.specs.declared.NextLong.{NextLong}
-use Rattle.cursor.specs.declared.NextLong.the-variants as long
+use Rattle.cursor.specs.declared.NextU8.{NextU8}
+use Rattle.cursor.specs.declared.NextU8.the-variants as byte
+use Rattle.cursor.specs.declared.NextU16.{NextU16}
+use Rattle.cursor.specs.declared.NextU16.the-variants as half
+use Rattle.cursor.specs.declared.NextU32.{NextU32}
+use Rattle.cursor.specs.declared.NextU32.the-variants as word
+use Rattle.cursor.specs.declared.NextU64.{NextU64}
+use Rattle.cursor.specs.declared.NextU64.the-variants as long
 
-abbrev pub answerNextByte : NextByte → Answer
-answerNextByte (byte.Value t) = accepted (t .value ∷ t .next .at ∷ [])
-answerNextByte (byte.Refused k) = refused k
+abbrev pub answerNextU8 : NextU8 → Answer
+answerNextU8 (byte.Value t) = accepted (t .value ∷ t .next .at ∷ [])
+answerNextU8 (byte.Refused k) = refused k
 
-abbrev pub answerNextHalf : NextHalf → Answer
-answerNextHalf (half.Value t) = accepted (t .value ∷ t .next .at ∷ [])
-answerNextHalf (half.Refused k) = refused k
+abbrev pub answerNextU16 : NextU16 → Answer
+answerNextU16 (half.Value t) = accepted (t .value ∷ t .next .at ∷ [])
+answerNextU16 (half.Refused k) = refused k
 
-abbrev pub answerNextWord : NextWord → Answer
-answerNextWord (word.Value t) = accepted (t .value ∷ t .next .at ∷ [])
-answerNextWord (word.Refused k) = refused k
+abbrev pub answerNextU32 : NextU32 → Answer
+answerNextU32 (word.Value t) = accepted (t .value ∷ t .next .at ∷ [])
+answerNextU32 (word.Refused k) = refused k
 
-abbrev pub answerNextLong : NextLong → Answer
-answerNextLong (long.Value t) = accepted (t .value ∷ t .next .at ∷ [])
-answerNextLong (long.Refused k) = refused k
+abbrev pub answerNextU64 : NextU64 → Answer
+answerNextU64 (long.Value t) = accepted (t .value ∷ t .next .at ∷ [])
+answerNextU64 (long.Refused k) = refused k

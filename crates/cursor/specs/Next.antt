@@ -3,35 +3,34 @@
 use Prim.Native.Nat.{ℕ, _+_}
 use mathlib.Core.List.{List}
 use mathlib.Core.Bool.{Bool}
-use mathlib.Core.Path.{_≡_}
 use Rattle.answer.specs.declared.Refusal.{Refusal}
-use Rattle.fields.specs.Field.{fieldOf}
+use Rattle.fields.specs.Field.{readOf}
 use Rattle.cursor.specs.declared.Cursor.{Cursor}
-use Rattle.cursor.specs.declared.NextByte.{NextByte}
-use Rattle.cursor.specs.declared.NextByte.the-variants as byte
-use Rattle.cursor.specs.declared.NextHalf.{NextHalf}
-use Rattle.cursor.specs.declared.NextHalf.the-variants as half
-use Rattle.cursor.specs.declared.NextWord.{NextWord}
-use Rattle.cursor.specs.declared.NextWord.the-variants as word
-use Rattle.cursor.specs.declared.NextLong.{NextLong}
-use Rattle.cursor.specs.declared.NextLong.the-variants as long
+use Rattle.cursor.specs.declared.NextU8.{NextU8}
+use Rattle.cursor.specs.declared.NextU8.the-variants as byte
+use Rattle.cursor.specs.declared.NextU16.{NextU16}
+use Rattle.cursor.specs.declared.NextU16.the-variants as half
+use Rattle.cursor.specs.declared.NextU32.{NextU32}
+use Rattle.cursor.specs.declared.NextU32.the-variants as word
+use Rattle.cursor.specs.declared.NextU64.{NextU64}
+use Rattle.cursor.specs.declared.NextU64.the-variants as long
 
--- the cursor stands at that place
-abbrev pub StandsAt : Cursor → ℕ → Type 0
-StandsAt c at = c .at ≡ at
+-- the cursor that stands at that place
+abbrev pub newOf : ℕ → Cursor
+newOf at = record { at = at }
 
 -- `w` bytes at `at`: the field, and `at + w`
 unfoldable pub nextOf : {A : Type 0} → (ℕ → Cursor → A) → (Refusal → A) → Bool → ℕ → List ℕ → ℕ → A
-nextOf taken refused big w s at = fieldOf (λ n. taken n (record { at = at + w })) refused big w s at
+nextOf taken refused big w s at = readOf (λ n. taken n (record { at = at + w })) refused big w s at
 
-abbrev pub takenByte : ℕ → Cursor → NextByte
-takenByte n k = byte.Value (record { value = n; next = k })
+abbrev pub takenU8 : ℕ → Cursor → NextU8
+takenU8 n k = byte.Value (record { value = n; next = k })
 
-abbrev pub takenHalf : ℕ → Cursor → NextHalf
-takenHalf n k = half.Value (record { value = n; next = k })
+abbrev pub takenU16 : ℕ → Cursor → NextU16
+takenU16 n k = half.Value (record { value = n; next = k })
 
-abbrev pub takenWord : ℕ → Cursor → NextWord
-takenWord n k = word.Value (record { value = n; next = k })
+abbrev pub takenU32 : ℕ → Cursor → NextU32
+takenU32 n k = word.Value (record { value = n; next = k })
 
-abbrev pub takenLong : ℕ → Cursor → NextLong
-takenLong n k = long.Value (record { value = n; next = k })
+abbrev pub takenU64 : ℕ → Cursor → NextU64
+takenU64 n k = long.Value (record { value = n; next = k })

@@ -1,21 +1,21 @@
 // Prints what the file that argument 1 names is. Argument 2, `--large`, says that the stack was raised to 260 MiB and more.
 use answer::Refusal;
-use fat::Opened;
-use fat_member::Found;
-use fat_member::Member;
-use fields::Half;
-use fields::Word;
+use fat::OpenFat;
+use fat_member::FatArch;
+use fat_member::ReadFatArch;
+use fields::ReadU16;
+use fields::ReadU32;
 use libc::SEEK_END;
 use libc::SEEK_SET;
 
 // What is printed, by the first bytes: the magic of a fat Mach-O file, or the signature of a DOS header.
 fn put_file(s: &[u8], out: &mut [u8; 65536], at: usize) -> usize {
-    if let Word::Value(magic) = fields::read_u32(s, 0, true) {
+    if let ReadU32::Value(magic) = fields::read_u32(s, 0, true) {
         if magic == 0xCAFEBABE {
             return put_fat(s, out, at);
         }
     }
-    if let Half::Value(signature) = fields::read_u16(s, 0, false) {
+    if let ReadU16::Value(signature) = fields::read_u16(s, 0, false) {
         if signature == 0x5A4D {
             return text::put(out, at, b"DOS or PE, by its signature\n");
         }
@@ -36,8 +36,8 @@ fn put_refusal(out: &mut [u8; 65536], at: usize, k: Refusal) -> usize {
 fn put_fat(s: &[u8], out: &mut [u8; 65536], at: usize) -> usize {
     let end = text::put(out, at, b"fat Mach-O\n");
     let count = match fat::open(s) {
-        Opened::Count(n) => n,
-        Opened::Refused(k) => return put_refusal(out, end, k),
+        OpenFat::Value(n) => n,
+        OpenFat::Refused(k) => return put_refusal(out, end, k),
     };
     let first = text::put(out, end, b"members ");
     let second = text::put_decimal(out, first, count as u64);
@@ -50,10 +50,10 @@ fn put_members(s: &[u8], count: u32, out: &mut [u8; 65536], at: usize) -> usize 
     let mut i: u32 = 0;
     while i < count {
         match fat::member_at(s, i as usize) {
-            Found::At(m) => {
+            ReadFatArch::Value(m) => {
                 end = put_member(m, i, out, end);
             }
-            Found::Refused(k) => {
+            ReadFatArch::Refused(k) => {
                 end = put_refusal(out, end, k);
             }
         }
@@ -62,7 +62,7 @@ fn put_members(s: &[u8], count: u32, out: &mut [u8; 65536], at: usize) -> usize 
     end
 }
 
-fn put_member(m: Member, i: u32, out: &mut [u8; 65536], at: usize) -> usize {
+fn put_member(m: FatArch, i: u32, out: &mut [u8; 65536], at: usize) -> usize {
     let mut end = text::put(out, at, b"member ");
     end = text::put_decimal(out, end, i as u64);
     end = text::put(out, end, b": cputype 0x");
@@ -74,7 +74,7 @@ fn put_member(m: Member, i: u32, out: &mut [u8; 65536], at: usize) -> usize {
     put_place(m, out, end)
 }
 
-fn put_place(m: Member, out: &mut [u8; 65536], at: usize) -> usize {
+fn put_place(m: FatArch, out: &mut [u8; 65536], at: usize) -> usize {
     let mut end = text::put(out, at, b" offset ");
     end = text::put_decimal(out, end, m.offset);
     end = text::put(out, end, b" size ");

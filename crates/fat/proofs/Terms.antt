@@ -7,10 +7,10 @@ use Prim.Native.Nat.{ℕ, _+_, _*_, _≤_}
 use lib.ListN.{length}
 use Rattle.answer.specs.Test.{fileLimit}
 use Rattle.fields.specs.Number.{numberAt}
-use Rattle.fat_member.specs.Member.{fatArch, memberAt}
-use Rattle.fat_member.specs.declared.Member.{Member}
-use Rattle.fat_member.specs.declared.Found.{Found}
-use Rattle.fat_member.specs.declared.Found.the-variants.{At}
+use Rattle.fat_member.specs.FatArch.{fatArch, readOf}
+use Rattle.fat_member.specs.declared.FatArch.{FatArch}
+use Rattle.fat_member.specs.declared.ReadFatArch.{ReadFatArch}
+use Rattle.fat_member.specs.declared.ReadFatArch.the-variants.{Value}
 use Rattle.fat.specs.Fat.{fatMagic, memberLimit}
 
 -- the file is not too long, and its header is whole, has the magic, and counts `n` members, no more than the limit
@@ -22,9 +22,9 @@ pub record Header (s : List ℕ) (n : ℕ) : Type 0 where
   pub few : n ≤ memberLimit
 
 -- an answer that is a member
-pub record There (f : Found) : Type 0 where
-  pub member : Member
-  pub is : At member ≡ f
+pub record There (f : ReadFatArch) : Type 0 where
+  pub member : FatArch
+  pub is : Value member ≡ f
 
 -- where the member with that index stands
 abbrev pub rowAt : ℕ → ℕ
@@ -32,4 +32,4 @@ rowAt i = 8 + i * 20
 
 -- the member with that index is accepted
 abbrev pub Good : List ℕ → ℕ → Type 0
-Good s i = There (memberAt fatArch s (rowAt i))
+Good s i = There (readOf fatArch s (rowAt i))

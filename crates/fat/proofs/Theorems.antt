@@ -10,21 +10,21 @@ use lib.Dec.{T}
 use lib.ListN.{length, getD, take, drop, length-take, length-drop, take-append-drop}
 use lib.Seq.{drop-drop, getD-take, getD-drop}
 use denote.Ref.{now}
-use Rattle.answer.specs.Answer.{refuse, limit, notFound, pastFile}
+use Rattle.answer.specs.Answer.{refuseOf, limit, notFound, pastFile}
 use Rattle.answer.specs.Test.{fileLimit}
 use Rattle.answer.specs.declared.Refusal.{Refusal}
 use Rattle.answer.proofs.Unique.{same}
 use Rattle.fields.specs.Number.{numberAt}
 use Rattle.layout.specs.Layout.{placed}
-use Rattle.fat_member.specs.Member.{fatArch, memberOf, memberAt}
-use Rattle.fat_member.specs.declared.Member.{Member}
-use Rattle.fat_member.specs.declared.Found.{Found}
-use Rattle.fat_member.specs.declared.Found.the-variants as found
+use Rattle.fat_member.specs.FatArch.{fatArch, archOf, readOf}
+use Rattle.fat_member.specs.declared.FatArch.{FatArch}
+use Rattle.fat_member.specs.declared.ReadFatArch.{ReadFatArch}
+use Rattle.fat_member.specs.declared.ReadFatArch.the-variants as found
 use Rattle.fat_member.proofs.Theorems.{fieldsAt, endAt, end-at-length, end-past}
-use Rattle.fat.specs.Fat.{fatHeader, fatMagic, openedIn, foundIn, bytesOf, startOf}
-use Rattle.fat.specs.declared.Opened.{Opened}
-use Rattle.fat.specs.declared.Opened.the-variants.{Count, Refused}
-use Rattle.fat.specs.declared.Part.{Part}
+use Rattle.fat.specs.Fat.{fatHeader, fatMagic, openOf, memberAtOf, bytesAtOf, startOf}
+use Rattle.fat.specs.declared.OpenFat.{OpenFat}
+use Rattle.fat.specs.declared.OpenFat.the-variants.{Value, Refused}
+use Rattle.fat.specs.declared.FatArchBytes.{FatArchBytes}
 use Rattle.fat.proofs.Terms.{Header, There, rowAt, Good}
 use Rattle.fat.proofs.Laws.{header-count, header-many, header-told, opened-header, opened-refused, opened-stop, opened-all, found-refused, found-at, found-there, found-past, found-inside, inside-is}
 
@@ -33,92 +33,92 @@ pub fields-placed : T (placed 0 fatHeader)
 fields-placed = tt
 
 -- Opening accepts a file whose header is right and whose members are all accepted..
-pub good-opened : (s : List ℕ) (n : ℕ) → Header s n → ((i : ℕ) → i < n → Good s i) → Count n ≡ openedIn s
+pub good-opened : (s : List ℕ) (n : ℕ) → Header s n → ((i : ℕ) → i < n → Good s i) → Value n ≡ openOf s
 good-opened s n h g = opened-all s (header-count s (h .short) (h .right) (h .room) (h .few) (h .count)) n g refl
 
 -- ..and no other: what it counts is what the header says, and each of them is accepted.
-pub opened-good : (s : List ℕ) (n : ℕ) → Count n ≡ openedIn s → Header s n × ((i : ℕ) → i < n → Good s i)
+pub opened-good : (s : List ℕ) (n : ℕ) → Value n ≡ openOf s → Header s n × ((i : ℕ) → i < n → Good s i)
 opened-good s n e = (header-told s n (opened-header s e), λ i h. found-there s i e h)
 
 -- The first member that is refused is the answer: those behind it are not looked at.
-pub first-refusal : (s : List ℕ) (n i : ℕ) (k : Refusal) → Header s n → i < n → ((j : ℕ) → j < i → Good s j) → found.Refused k ≡ memberAt fatArch s (rowAt i) → Refused k ≡ openedIn s
+pub first-refusal : (s : List ℕ) (n i : ℕ) (k : Refusal) → Header s n → i < n → ((j : ℕ) → j < i → Good s j) → found.Refused k ≡ readOf fatArch s (rowAt i) → Refused k ≡ openOf s
 first-refusal s n i k h l g r = opened-stop s (header-count s (h .short) (h .right) (h .room) (h .few) (h .count)) i g l r
 
 -- Count 0 is accepted, whatever follows.
-pub none-accepted : (s : List ℕ) → Header s 0 → openedIn s ≡ Count 0
+pub none-accepted : (s : List ℕ) → Header s 0 → openOf s ≡ Value 0
 none-accepted s h = sym (good-opened s 0 h (λ i l. absurd (not-suc-le-zero l)))
 
 -- Every count from 33 up is 3, whatever follows.
-pub many-refused : (s : List ℕ) → length s ≤ fileLimit → 8 ≤ length s → numberAt true 4 s 0 ≡ fatMagic → 33 ≤ numberAt true 4 s 4 → openedIn s ≡ Refused (refuse limit)
+pub many-refused : (s : List ℕ) → length s ≤ fileLimit → 8 ≤ length s → numberAt true 4 s 0 ≡ fatMagic → 33 ≤ numberAt true 4 s 4 → openOf s ≡ Refused (refuseOf limit)
 many-refused s h r m n = sym (opened-refused s (header-many s h m r (omega arith) refl))
 
 -- A Java class file has the same magic, and a second word of 45 and up. No such file is listed: it does not open, and it shows no
 -- member.
-pub java-never : (s : List ℕ) (n : ℕ) → 45 ≤ numberAt true 4 s 4 → Count n ≡ openedIn s → ⊥
+pub java-never : (s : List ℕ) (n : ℕ) → 45 ≤ numberAt true 4 s 4 → Value n ≡ openOf s → ⊥
 java-never s n h e = let k = opened-good s n e .0 in omega arith
 
-pub java-refused : (s : List ℕ) (i : ℕ) → length s ≤ fileLimit → 8 ≤ length s → numberAt true 4 s 0 ≡ fatMagic → 45 ≤ numberAt true 4 s 4 → foundIn s i ≡ found.Refused (refuse limit)
+pub java-refused : (s : List ℕ) (i : ℕ) → length s ≤ fileLimit → 8 ≤ length s → numberAt true 4 s 0 ≡ fatMagic → 45 ≤ numberAt true 4 s 4 → memberAtOf s i ≡ found.Refused (refuseOf limit)
 java-refused s i h r m n = sym (found-refused s i (opened-refused s (header-many s h m r (omega arith) refl)))
 
 -- The only member of a file may end where the file ends..
-pub one-at-length : (s : List ℕ) → Header s 1 → 28 ≤ length s → endAt s 8 ≡ length s → openedIn s ≡ Count 1
+pub one-at-length : (s : List ℕ) → Header s 1 → 28 ≤ length s → endAt s 8 ≡ length s → openOf s ≡ Value 1
 one-at-length s h r e =
-    sym (good-opened s 1 h (λ i l. let z : rowAt i ≡ 8 = omega arith in rw z (record { member = memberOf fatArch (fieldsAt s 8); is = sym (end-at-length s 8 r e) })))
+    sym (good-opened s 1 h (λ i l. let z : rowAt i ≡ 8 = omega arith in rw z (record { member = archOf fatArch (fieldsAt s 8); is = sym (end-at-length s 8 r e) })))
 
 -- ..and not a byte further: that is 14, in every door.
-pub one-past : (s : List ℕ) → Header s 1 → 24 ≤ length s → endAt s 8 ≡ suc (length s) → openedIn s ≡ Refused (refuse pastFile)
+pub one-past : (s : List ℕ) → Header s 1 → 24 ≤ length s → endAt s 8 ≡ suc (length s) → openOf s ≡ Refused (refuseOf pastFile)
 one-past s h r e =
-    sym (first-refusal s 1 0 (refuse pastFile) h (omega arith) (λ j l. absurd (not-suc-le-zero l)) (sym (end-past s 8 r (omega arith))))
+    sym (first-refusal s 1 0 (refuseOf pastFile) h (omega arith) (λ j l. absurd (not-suc-le-zero l)) (sym (end-past s 8 r (omega arith))))
 
 -- A member that reaches past the file is 14 in every door, whichever member is asked for. It is never shown as an empty one.
-pub past-refused : (s : List ℕ) (n i j : ℕ) → Header s n → i < n → ((k : ℕ) → k < i → Good s k) → rowAt i + 16 ≤ length s → length s < endAt s (rowAt i) → foundIn s j ≡ found.Refused (refuse pastFile)
-past-refused s n i j h l g r p = sym (found-refused s j (first-refusal s n i (refuse pastFile) h l g (sym (end-past s (rowAt i) r p))))
+pub past-refused : (s : List ℕ) (n i j : ℕ) → Header s n → i < n → ((k : ℕ) → k < i → Good s k) → rowAt i + 16 ≤ length s → length s < endAt s (rowAt i) → memberAtOf s j ≡ found.Refused (refuseOf pastFile)
+past-refused s n i j h l g r p = sym (found-refused s j (first-refusal s n i (refuseOf pastFile) h l g (sym (end-past s (rowAt i) r p))))
 
 -- Of a file that opens, the members below the count are shown, as they stand there..
-pub found-below : (s : List ℕ) (n i : ℕ) → Count n ≡ openedIn s → i < n → (foundIn s i ≡ memberAt fatArch s (rowAt i)) × There (foundIn s i)
+pub found-below : (s : List ℕ) (n i : ℕ) → Value n ≡ openOf s → i < n → (memberAtOf s i ≡ readOf fatArch s (rowAt i)) × There (memberAtOf s i)
 found-below s n i e h =
-    let f : memberAt fatArch s (rowAt i) ≡ foundIn s i = found-at s i (rowAt i) e h (omega arith) refl in
+    let f : readOf fatArch s (rowAt i) ≡ memberAtOf s i = found-at s i (rowAt i) e h (omega arith) refl in
     (sym f, rw f at (found-there s i e h))
 
 -- ..and none at the count or past it: that is 10.
-pub found-above : (s : List ℕ) (n i : ℕ) → Count n ≡ openedIn s → n ≤ i → foundIn s i ≡ found.Refused (refuse notFound)
+pub found-above : (s : List ℕ) (n i : ℕ) → Value n ≡ openOf s → n ≤ i → memberAtOf s i ≡ found.Refused (refuseOf notFound)
 found-above s n i e h = sym (found-past s i e h refl)
 
 -- Of a file that does not open, every index is answered as opening is.
-pub found-none : (s : List ℕ) (k : Refusal) (i : ℕ) → Refused k ≡ openedIn s → foundIn s i ≡ found.Refused k
+pub found-none : (s : List ℕ) (k : Refusal) (i : ℕ) → Refused k ≡ openOf s → memberAtOf s i ≡ found.Refused k
 found-none s k i e = sym (found-refused s i e)
 
 -- An accepted member lies in the file, and its part is exactly its bytes.
-module _ (s : List ℕ) (i : ℕ) (m : Member) (e : foundIn s i ≡ found.At m) where
+module _ (s : List ℕ) (i : ℕ) (m : FatArch) (e : memberAtOf s i ≡ found.Value m) where
   pub found-within : m .offset + m .size ≤ length s
   found-within = inside-is s e (found-inside s i)
 
-  bytes : bytesOf s (foundIn s i) ≡ take (m .size) (drop (m .offset) s)
+  bytes : bytesAtOf s (memberAtOf s i) ≡ take (m .size) (drop (m .offset) s)
   bytes = rw e
 
-  pub part-length : length (bytesOf s (foundIn s i)) ≡ m .size
+  pub part-length : length (bytesAtOf s (memberAtOf s i)) ≡ m .size
   part-length = rw bytes (simp (length-take, length-drop) (omega (arith, found-within)))
 
-  pub part-byte : (j : ℕ) → j < m .size → getD (bytesOf s (foundIn s i)) j 0 ≡ getD s (m .offset + j) 0
+  pub part-byte : (j : ℕ) → j < m .size → getD (bytesAtOf s (memberAtOf s i)) j 0 ≡ getD s (m .offset + j) 0
   part-byte j h = rw (bytes, getD-take, getD-drop)
 
   -- what stands before it, the part, and what stands behind it are the file
-  pub part-of-file : take (m .offset) s ++ bytesOf s (foundIn s i) ++ drop (m .offset + m .size) s ≡ s
+  pub part-of-file : take (m .offset) s ++ bytesAtOf s (memberAtOf s i) ++ drop (m .offset + m .size) s ≡ s
   part-of-file =
       rw (bytes, append-assoc (take (m .offset) s) (take (m .size) (drop (m .offset) s)) (drop (m .offset + m .size) s), ← drop-drop (m .size) (m .offset) s, take-append-drop (m .size) (drop (m .offset) s))
       (take-append-drop (m .offset) s)
 
 -- Two answers that meet a promise of this crate are equal.
-pub open-unique : (s : List ℕ) {r q : Opened} → r ≡ openedIn s → q ≡ openedIn s → r ≡ q
+pub open-unique : (s : List ℕ) {r q : OpenFat} → r ≡ openOf s → q ≡ openOf s → r ≡ q
 open-unique s = same
 
-pub member-at-unique : (s : List ℕ) (i : ℕ) {r q : Found} → r ≡ foundIn s i → q ≡ foundIn s i → r ≡ q
+pub member-at-unique : (s : List ℕ) (i : ℕ) {r q : ReadFatArch} → r ≡ memberAtOf s i → q ≡ memberAtOf s i → r ≡ q
 member-at-unique s i = same
 
 -- the promise of `bytes_at`, of the file `s` that lies at `p`
-abbrev pub Handed : List ℕ → ℕ × ℕ → ℕ → Part → Type 0
+abbrev pub Handed : List ℕ → ℕ × ℕ → ℕ → FatArchBytes → Type 0
 Handed s p i r =
-    (r .found ≡ foundIn s i) × (now (r .bytes) ≡ bytesOf s (foundIn s i)) × (r .bytes .ptr ≡ startOf p (foundIn s i))
+    (r .arch ≡ memberAtOf s i) × (now (r .bytes) ≡ bytesAtOf s (memberAtOf s i)) × (r .bytes .ptr ≡ startOf p (memberAtOf s i))
 
-pub bytes-at-unique : (s : List ℕ) (p : ℕ × ℕ) (i : ℕ) (r q : Part) → Handed s p i r → Handed s p i q → (r .found ≡ q .found) × (now (r .bytes) ≡ now (q .bytes)) × (r .bytes .ptr ≡ q .bytes .ptr)
+pub bytes-at-unique : (s : List ℕ) (p : ℕ × ℕ) (i : ℕ) (r q : FatArchBytes) → Handed s p i r → Handed s p i q → (r .arch ≡ q .arch) × (now (r .bytes) ≡ now (q .bytes)) × (r .bytes .ptr ≡ q .bytes .ptr)
 bytes-at-unique s p i r q e f = (same (e .0) (f .0), same (e .1) (f .1), same (e .2) (f .2))

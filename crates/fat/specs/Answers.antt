@@ -2,9 +2,9 @@
 -- Assumes nothing.
 use mathlib.Core.List.{[], _∷_}
 use Rattle.answer.specs.Answer.{Answer, accepted, refused}
-use Rattle.fat.specs.declared.Opened.{Opened}
-use Rattle.fat.specs.declared.Opened.the-variants.{Count, Refused}
+use Rattle.fat.specs.declared.OpenFat.{OpenFat}
+use Rattle.fat.specs.declared.OpenFat.the-variants.{Value, Refused}
 
-abbrev pub answerOpened : Opened → Answer
-answerOpened (Count n) = accepted (n ∷ [])
-answerOpened (Refused k) = refused k
+abbrev pub answerOpenFat : OpenFat → Answer
+answerOpenFat (Value n) = accepted (n ∷ [])
+answerOpenFat (Refused k) = refused k

@@ -1,16 +1,16 @@
--- `memberAt` on small files, by computation.
+-- `readOf` on small files, by computation.
 -- Assumes nothing.
 use mathlib.Core.Path.{_≡_, refl}
 use mathlib.Core.List.{List, [], _∷_}
 use mathlib.Core.Bool.{true, false}
 use Prim.Native.Nat.{ℕ}
-use Rattle.answer.specs.Answer.{refuse, short, cut, pastFile}
+use Rattle.answer.specs.Answer.{refuseOf, short, cutOf, pastFile}
 use Rattle.answer.specs.Test.{must}
 use Rattle.fields.specs.Number.{numberAt}
 use Rattle.layout.specs.Layout.{readBy}
 use Rattle.fat_member.specs.Fields.{bytesIn}
-use Rattle.fat_member.specs.Member.{fatArch, memberAt}
-use Rattle.fat_member.specs.declared.Found.the-variants.{At, Refused}
+use Rattle.fat_member.specs.FatArch.{fatArch, readOf}
+use Rattle.fat_member.specs.declared.ReadFatArch.the-variants.{Value, Refused}
 
 twenty-bytes : bytesIn fatArch ≡ 20
 twenty-bytes = refl
@@ -20,41 +20,41 @@ abbrev file : ℕ → ℕ → List ℕ
 file offset size =
     1 ∷ 0 ∷ 0 ∷ 7 ∷ 128 ∷ 0 ∷ 0 ∷ 3 ∷ 0 ∷ 0 ∷ 0 ∷ offset ∷ 0 ∷ 0 ∷ 0 ∷ size ∷ 0 ∷ 0 ∷ 0 ∷ 12 ∷ []
 
-end-at-the-end : memberAt fatArch (file 4 16) 0 ≡ At (record { cputype = 16777223; cpusubtype = 3; caps = 128; offset = 4; size = 16; align = 12; «is_64» = true })
-unfolding memberAt readBy numberAt must
+end-at-the-end : readOf fatArch (file 4 16) 0 ≡ Value (record { cputype = 16777223; cpusubtype = 3; caps = 128; offset = 4; size = 16; align = 12; «is_64» = true })
+unfolding readOf readBy numberAt must
 end-at-the-end = refl
 
-end-one-past : memberAt fatArch (file 4 17) 0 ≡ Refused (refuse pastFile)
-unfolding memberAt readBy numberAt must
+end-one-past : readOf fatArch (file 4 17) 0 ≡ Refused (refuseOf pastFile)
+unfolding readOf readBy numberAt must
 end-one-past = refl
 
 -- an empty member has to lie in the file too
-empty-at-the-end : memberAt fatArch (file 20 0) 0 ≡ At (record { cputype = 16777223; cpusubtype = 3; caps = 128; offset = 20; size = 0; align = 12; «is_64» = true })
-unfolding memberAt readBy numberAt must
+empty-at-the-end : readOf fatArch (file 20 0) 0 ≡ Value (record { cputype = 16777223; cpusubtype = 3; caps = 128; offset = 20; size = 0; align = 12; «is_64» = true })
+unfolding readOf readBy numberAt must
 empty-at-the-end = refl
 
-empty-past : memberAt fatArch (file 21 0) 0 ≡ Refused (refuse pastFile)
-unfolding memberAt readBy numberAt must
+empty-past : readOf fatArch (file 21 0) 0 ≡ Refused (refuseOf pastFile)
+unfolding readOf readBy numberAt must
 empty-past = refl
 
 -- i386, with an offset and a size whose sum is 2^32 + 1: 14, and no member at 1
-sum-past-32-bits : memberAt fatArch (0 ∷ 0 ∷ 0 ∷ 7 ∷ 0 ∷ 0 ∷ 0 ∷ 3 ∷ 255 ∷ 255 ∷ 255 ∷ 255 ∷ 0 ∷ 0 ∷ 0 ∷ 2 ∷ 0 ∷ 0 ∷ 0 ∷ 12 ∷ []) 0 ≡ Refused (refuse pastFile)
-unfolding memberAt readBy numberAt must
+sum-past-32-bits : readOf fatArch (0 ∷ 0 ∷ 0 ∷ 7 ∷ 0 ∷ 0 ∷ 0 ∷ 3 ∷ 255 ∷ 255 ∷ 255 ∷ 255 ∷ 0 ∷ 0 ∷ 0 ∷ 2 ∷ 0 ∷ 0 ∷ 0 ∷ 12 ∷ []) 0 ≡ Refused (refuseOf pastFile)
+unfolding readOf readBy numberAt must
 sum-past-32-bits = refl
 
-not-64-bit : memberAt fatArch (0 ∷ 0 ∷ 0 ∷ 7 ∷ 0 ∷ 0 ∷ 0 ∷ 3 ∷ 0 ∷ 0 ∷ 0 ∷ 0 ∷ 0 ∷ 0 ∷ 0 ∷ 1 ∷ 0 ∷ 0 ∷ 0 ∷ 12 ∷ []) 0 ≡ At (record { cputype = 7; cpusubtype = 3; caps = 0; offset = 0; size = 1; align = 12; «is_64» = false })
-unfolding memberAt readBy numberAt must
+not-64-bit : readOf fatArch (0 ∷ 0 ∷ 0 ∷ 7 ∷ 0 ∷ 0 ∷ 0 ∷ 3 ∷ 0 ∷ 0 ∷ 0 ∷ 0 ∷ 0 ∷ 0 ∷ 0 ∷ 1 ∷ 0 ∷ 0 ∷ 0 ∷ 12 ∷ []) 0 ≡ Value (record { cputype = 7; cpusubtype = 3; caps = 0; offset = 0; size = 1; align = 12; «is_64» = false })
+unfolding readOf readBy numberAt must
 not-64-bit = refl
 
 -- the end is looked at before a missing align, and after a missing size
-past-before-no-align : memberAt fatArch (0 ∷ 0 ∷ 0 ∷ 7 ∷ 0 ∷ 0 ∷ 0 ∷ 3 ∷ 0 ∷ 0 ∷ 0 ∷ 0 ∷ 0 ∷ 0 ∷ 0 ∷ 17 ∷ []) 0 ≡ Refused (refuse pastFile)
-unfolding memberAt readBy numberAt must
+past-before-no-align : readOf fatArch (0 ∷ 0 ∷ 0 ∷ 7 ∷ 0 ∷ 0 ∷ 0 ∷ 3 ∷ 0 ∷ 0 ∷ 0 ∷ 0 ∷ 0 ∷ 0 ∷ 0 ∷ 17 ∷ []) 0 ≡ Refused (refuseOf pastFile)
+unfolding readOf readBy numberAt must
 past-before-no-align = refl
 
-no-align : memberAt fatArch (0 ∷ 0 ∷ 0 ∷ 7 ∷ 0 ∷ 0 ∷ 0 ∷ 3 ∷ 0 ∷ 0 ∷ 0 ∷ 0 ∷ 0 ∷ 0 ∷ 0 ∷ 16 ∷ []) 0 ≡ Refused (refuse short)
-unfolding memberAt readBy numberAt must cut
+no-align : readOf fatArch (0 ∷ 0 ∷ 0 ∷ 7 ∷ 0 ∷ 0 ∷ 0 ∷ 3 ∷ 0 ∷ 0 ∷ 0 ∷ 0 ∷ 0 ∷ 0 ∷ 0 ∷ 16 ∷ []) 0 ≡ Refused (refuseOf short)
+unfolding readOf readBy numberAt must cutOf
 no-align = refl
 
-no-size : memberAt fatArch (0 ∷ 0 ∷ 0 ∷ 7 ∷ 0 ∷ 0 ∷ 0 ∷ 3 ∷ 0 ∷ 0 ∷ 0 ∷ 99 ∷ 0 ∷ 0 ∷ 0 ∷ []) 0 ≡ Refused (refuse short)
-unfolding memberAt readBy numberAt must cut
+no-size : readOf fatArch (0 ∷ 0 ∷ 0 ∷ 7 ∷ 0 ∷ 0 ∷ 0 ∷ 3 ∷ 0 ∷ 0 ∷ 0 ∷ 99 ∷ 0 ∷ 0 ∷ 0 ∷ []) 0 ≡ Refused (refuseOf short)
+unfolding readOf readBy numberAt must cutOf
 no-size = refl

@@ -8,7 +8,7 @@ use native.Mathlib.Omega.{arith}
 use lib.ListN.{length, getD, take}
 use lib.Dec.{leb}
 use borrow.Author.Tests.{le-leb, lt-leb, leb-true}
-use Rattle.answer.specs.Answer.{refuse, cut, pastFile}
+use Rattle.answer.specs.Answer.{refuseOf, cutOf, pastFile}
 use Rattle.answer.specs.Test.{must}
 use Rattle.answer.specs.declared.Refusal.{Refusal}
 use Rattle.answer.proofs.Laws.{must-on, must-off}
@@ -20,10 +20,10 @@ use Rattle.layout.proofs.Laws.{missed-at, full-is}
 use Rattle.layout.proofs.Theorems.{Reads, reads}
 use Rattle.layout.proofs.Theorems as layout
 use Rattle.fat_member.specs.Fields.{upTo, behind, bytesIn, the, reading}
-use Rattle.fat_member.specs.Member.{fatArch, memberOf, memberAt, Inside}
-use Rattle.fat_member.specs.declared.Member.{Member}
-use Rattle.fat_member.specs.declared.Found.{Found}
-use Rattle.fat_member.specs.declared.Found.the-variants.{At, Refused}
+use Rattle.fat_member.specs.FatArch.{fatArch, archOf, readOf, Inside}
+use Rattle.fat_member.specs.declared.FatArch.{FatArch}
+use Rattle.fat_member.specs.declared.ReadFatArch.{ReadFatArch}
+use Rattle.fat_member.specs.declared.ReadFatArch.the-variants.{Value, Refused}
 
 -- a number that was taken, by the place that the cursor stood at
 pub number-there : {big : Bool} {w : ℕ} {s : List ℕ} {i n next at : ℕ} → Took big w s i n next → i ≡ at → n ≡ numberAt big w s at
@@ -37,31 +37,31 @@ module _ (arch : List Field) (s : List ℕ) (at : ℕ) where
   abbrev pub back : List ℕ
   back = numbersAt true (widths (behind "size" arch)) s (at + bytesIn (upTo "size" arch))
 
-  pub member-no-front : (k : ℕ) → k < length (widths (upTo "size" arch)) → {i : ℕ} {q : Refusal} → Missed (getD (widths (upTo "size" arch)) k 0) s i q → i ≡ at + size (take k (widths (upTo "size" arch))) → (0 < k → i ≤ length s) → Refused q ≡ memberAt arch s at
-  unfolding memberAt
+  pub member-no-front : (k : ℕ) → k < length (widths (upTo "size" arch)) → {i : ℕ} {q : Refusal} → Missed (getD (widths (upTo "size" arch)) k 0) s i q → i ≡ at + size (take k (widths (upTo "size" arch))) → (0 < k → i ≤ length s) → Refused q ≡ readOf arch s at
+  unfolding readOf
   member-no-front k h {i} m e r = missed-at true (widths (upTo "size" arch)) k h _ Refused s at i m e r
 
   module _ (room : at + bytesIn (upTo "size" arch) ≤ length s) where
-    pub member-past : {q : Refusal} → length s < the arch "offset" front + the arch "size" front → q ≡ refuse pastFile → Refused q ≡ memberAt arch s at
-    unfolding memberAt
+    pub member-past : {q : Refusal} → length s < the arch "offset" front + the arch "size" front → q ≡ refuseOf pastFile → Refused q ≡ readOf arch s at
+    unfolding readOf
     member-past h e =
         full-is true s _ _ (widths (upTo "size" arch)) at room
         (must-off Refused _ pastFile _ (lt-leb (the arch "offset" front + the arch "size" front) (length s) h) e)
 
     module _ (within : the arch "offset" front + the arch "size" front ≤ length s) where
-      pub member-no-back : (k : ℕ) → k < length (widths (behind "size" arch)) → {i : ℕ} {q : Refusal} → Missed (getD (widths (behind "size" arch)) k 0) s i q → i ≡ at + bytesIn (upTo "size" arch) + size (take k (widths (behind "size" arch))) → (0 < k → i ≤ length s) → Refused q ≡ memberAt arch s at
-      unfolding memberAt
+      pub member-no-back : (k : ℕ) → k < length (widths (behind "size" arch)) → {i : ℕ} {q : Refusal} → Missed (getD (widths (behind "size" arch)) k 0) s i q → i ≡ at + bytesIn (upTo "size" arch) + size (take k (widths (behind "size" arch))) → (0 < k → i ≤ length s) → Refused q ≡ readOf arch s at
+      unfolding readOf
       member-no-back k h {i} m e r =
           full-is true s _ _ (widths (upTo "size" arch)) at room
           (must-on Refused _ pastFile _ (le-leb (the arch "offset" front + the arch "size" front) (length s) within)
           (missed-at true (widths (behind "size" arch)) k h _ Refused s (at + bytesIn (upTo "size" arch)) i m e r))
 
-      pub member-whole : {m : Member} → at + bytesIn (upTo "size" arch) + bytesIn (behind "size" arch) ≤ length s → m ≡ memberOf arch (front ++ back) → At m ≡ memberAt arch s at
-      unfolding memberAt
+      pub member-whole : {m : FatArch} → at + bytesIn (upTo "size" arch) + bytesIn (behind "size" arch) ≤ length s → m ≡ archOf arch (front ++ back) → Value m ≡ readOf arch s at
+      unfolding readOf
       member-whole h e =
           full-is true s _ _ (widths (upTo "size" arch)) at room
           (must-on Refused _ pastFile _ (le-leb (the arch "offset" front + the arch "size" front) (length s) within)
-          (full-is true s _ _ (widths (behind "size" arch)) (at + bytesIn (upTo "size" arch)) h (ap At e)))
+          (full-is true s _ _ (widths (behind "size" arch)) (at + bytesIn (upTo "size" arch)) h (ap Value e)))
 
 -- the numbers of the two parts are those of the whole record
 pub numbers-parts : (s : List ℕ) (at : ℕ) → front fatArch s at ++ back fatArch s at ≡ numbersAt true (widths fatArch) s at
@@ -73,25 +73,25 @@ module _ {A : Type 0} (refusal : Refusal → A) (P : A → Type 0) (refusals : (
   pub told-must : (test : Bool) (number : ℕ) (on : A) → (test ≡ true → P on) → P (must refusal test number on)
   unfolding must
   told-must true number on h = h refl
-  told-must false number on h = refusals (refuse number)
+  told-must false number on h = refusals (refuseOf number)
 
-  pub told-reads : {s : List ℕ} {full x : A} {ws : List ℕ} {at : ℕ} → Reads full (λ end. refusal (cut end)) ws s at x → ((0 < length ws → at + size ws ≤ length s) → P full) → P x
+  pub told-reads : {s : List ℕ} {full x : A} {ws : List ℕ} {at : ℕ} → Reads full (λ end. refusal (cutOf end)) ws s at x → ((0 < length ws → at + size ws ≤ length s) → P full) → P x
   told-reads (layout.whole r e) h = rw e (h r)
-  told-reads (layout.cut n a b e) h = rw e (refusals (cut n))
+  told-reads (layout.cut n a b e) h = rw e (refusals (cutOf n))
 
 -- The same of a member.
-pub told-member : (P : Found → Type 0) → ((k : Refusal) → P (Refused k)) → (s : List ℕ) (at : ℕ) → (at + 20 ≤ length s → the fatArch "offset" (front fatArch s at) + the fatArch "size" (front fatArch s at) ≤ length s → P (At (memberOf fatArch (front fatArch s at ++ back fatArch s at)))) → P (memberAt fatArch s at)
-unfolding memberAt
+pub told-member : (P : ReadFatArch → Type 0) → ((k : Refusal) → P (Refused k)) → (s : List ℕ) (at : ℕ) → (at + 20 ≤ length s → the fatArch "offset" (front fatArch s at) + the fatArch "size" (front fatArch s at) ≤ length s → P (Value (archOf fatArch (front fatArch s at ++ back fatArch s at)))) → P (readOf fatArch s at)
+unfolding readOf
 told-member P refusals s at h =
     let ns : List ℕ = front fatArch s at in
     let end : ℕ = the fatArch "offset" ns + the fatArch "size" ns in
-    let on : List ℕ → Found = λ ms. At (memberOf fatArch (ns ++ ms)) in
+    let on : List ℕ → ReadFatArch = λ ms. Value (archOf fatArch (ns ++ ms)) in
     told-reads Refused P refusals (reads _ _ true (widths (upTo "size" fatArch)) s at)
     (λ r. told-must Refused P refusals (leb end (length s)) pastFile (reading Refused (behind "size" fatArch) s (at + 16) on)
     (λ t. told-reads Refused P refusals (reads on _ true (widths (behind "size" fatArch)) s (at + 16))
     (λ q. h (omega (arith, q (omega arith))) (leb-true end (length s) t))))
 
 -- a member that is accepted ends within the file
-pub member-inside : (s : List ℕ) (at : ℕ) → Inside s (memberAt fatArch s at)
+pub member-inside : (s : List ℕ) (at : ℕ) → Inside s (readOf fatArch s at)
 unfolding numbersAt
 member-inside s at = told-member (Inside s) (λ k. tt) s at (λ h l. l)

@@ -5,7 +5,7 @@ use Prim.Native.String.{String}
 use mathlib.Core.List.{List}
 use mathlib.Core.Bool.{true}
 use lib.ListN.{getD, take, drop}
-use Rattle.answer.specs.Answer.{cut}
+use Rattle.answer.specs.Answer.{cutOf}
 use Rattle.answer.specs.declared.Refusal.{Refusal}
 use Rattle.layout.specs.Layout.{Field, widths, place, size, readBy}
 
@@ -26,4 +26,4 @@ the fs x ns = getD ns (place x fs) 0
 
 -- Fields in file order from `at`: their numbers go to `on`; the first that is not whole is 1.
 abbrev pub reading : {A : Type 0} → (Refusal → A) → List Field → List ℕ → ℕ → (List ℕ → A) → A
-reading refusal fs s at on = readBy on (λ end. refusal (cut end)) true (widths fs) s at
+reading refusal fs s at on = readBy on (λ end. refusal (cutOf end)) true (widths fs) s at

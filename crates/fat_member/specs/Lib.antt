@@ -1,4 +1,4 @@
--- `Fields` reads the fields of a record in parts, `Member` is the record and its checks, `Answers` what each answer stands for.
+-- `Fields` reads the fields of a record in parts, `FatArch` is the record and its checks, `Answers` what each answer stands for.
 pub mod Fields
-pub mod Member
+pub mod FatArch
 pub mod Answers

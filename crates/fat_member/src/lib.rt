@@ -3,16 +3,16 @@ ghost use mathlib.Core.Path.{_≡_};
 ghost use Prim.Native.Nat.{_+_};
 ghost use mathlib.Core.List.{_∷_, []};
 ghost use lib.Dec.{leb};
-ghost use Rattle.fat_member.specs.Member.{fatArch, memberOf, memberAt};
+ghost use Rattle.fat_member.specs.FatArch.{fatArch, archOf, readOf};
 use answer::Refusal;
 use cursor::Cursor;
-use cursor::NextWord;
+use cursor::NextU32;
 
 // The bytes that a member takes in the table.
 pub const SIZE: usize = 20;
 
 // The offset and the size have room for 64 bits, as the form of the header with wide members has them.
-pub struct Member {
+pub struct FatArch {
     pub cputype: u32,
     // Without its top 8 bits, which are `caps`.
     pub cpusubtype: u32,
@@ -23,37 +23,37 @@ pub struct Member {
     pub is_64: bool,
 }
 
-pub enum Found {
-    At(Member),
+pub enum ReadFatArch {
+    Value(FatArch),
     Refused(Refusal),
 }
 
 // The member that stands at `at`. It must end within the bytes: they are the file.
-pub fn read(file: &[u8], at: usize) -> Found
-    ensures { λ r. ⌜ r ≡ memberAt fatArch (now (file .entry)) at ⌝ }
+pub fn read(file: &[u8], at: usize) -> ReadFatArch
+    ensures { λ r. ⌜ r ≡ readOf fatArch (now (file .entry)) at ⌝ }
 {
-    let cputype = match Cursor::new(at).u32(file, true) {
-        NextWord::Value(t) => t,
-        NextWord::Refused(k) => return Found::Refused(k),
+    let cputype = match Cursor::new(at).next_u32(file, true) {
+        NextU32::Value(t) => t,
+        NextU32::Refused(k) => return ReadFatArch::Refused(k),
     };
-    let cpusubtype = match cputype.next.u32(file, true) {
-        NextWord::Value(t) => t,
-        NextWord::Refused(k) => return Found::Refused(k),
+    let cpusubtype = match cputype.next.next_u32(file, true) {
+        NextU32::Value(t) => t,
+        NextU32::Refused(k) => return ReadFatArch::Refused(k),
     };
-    let offset = match cpusubtype.next.u32(file, true) {
-        NextWord::Value(t) => t,
-        NextWord::Refused(k) => return Found::Refused(k),
+    let offset = match cpusubtype.next.next_u32(file, true) {
+        NextU32::Value(t) => t,
+        NextU32::Refused(k) => return ReadFatArch::Refused(k),
     };
-    let size = match offset.next.u32(file, true) {
-        NextWord::Value(t) => t,
-        NextWord::Refused(k) => return Found::Refused(k),
+    let size = match offset.next.next_u32(file, true) {
+        NextU32::Value(t) => t,
+        NextU32::Refused(k) => return ReadFatArch::Refused(k),
     };
     if inside(file.len(), offset.value, size.value) {
-        let align = match size.next.u32(file, true) {
-            NextWord::Value(t) => t,
-            NextWord::Refused(k) => return Found::Refused(k),
+        let align = match size.next.next_u32(file, true) {
+            NextU32::Value(t) => t,
+            NextU32::Refused(k) => return ReadFatArch::Refused(k),
         };
-        return Found::At(member_of(
+        return ReadFatArch::Value(member_of(
             cputype.value,
             cpusubtype.value,
             offset.value,
@@ -61,7 +61,7 @@ pub fn read(file: &[u8], at: usize) -> Found
             align.value,
         ));
     }
-    Found::Refused(Refusal {
+    ReadFatArch::Refused(Refusal {
         number: answer::PAST_FILE,
     })
 }
@@ -73,10 +73,10 @@ fn inside(len: usize, offset: u32, size: u32) -> bool
     fields::fits(len, offset as usize, size as usize)
 }
 
-fn member_of(cputype: u32, cpusubtype: u32, offset: u32, size: u32, align: u32) -> Member
-    ensures { λ r. ⌜ r ≡ memberOf fatArch (cputype ∷ cpusubtype ∷ offset ∷ size ∷ align ∷ []) ⌝ }
+fn member_of(cputype: u32, cpusubtype: u32, offset: u32, size: u32, align: u32) -> FatArch
+    ensures { λ r. ⌜ r ≡ archOf fatArch (cputype ∷ cpusubtype ∷ offset ∷ size ∷ align ∷ []) ⌝ }
 {
-    Member {
+    FatArch {
         cputype,
         cpusubtype: cpusubtype % 0x1000000,
         caps: (cpusubtype / 0x1000000) as u8,

@@ -11,20 +11,20 @@ use lib.ListN.{length, set, length-append}
 use lib.Seq.{sets, sets-eq, length-sets}
 use lib.Dec.{leb}
 use borrow.Author.Tests.{le-leb, lt-leb, leb-true, leb-false}
-use Rattle.answer.specs.Answer.{Answer, accepted, refused, cut, refuse, short, room}
+use Rattle.answer.specs.Answer.{Answer, accepted, refused, cutOf, refuseOf, short, room}
 use Rattle.answer.specs.declared.Refusal.{Refusal}
 use Rattle.fields.specs.Number.{numberAt, bytesOf, joined}
-use Rattle.fields.specs.Field.{fieldOf, put, stored, writtenIn}
-use Rattle.fields.specs.Answers.{answerByte, answerHalf, answerWord, answerLong}
-use Rattle.fields.specs.declared.Byte.{Byte}
-use Rattle.fields.specs.declared.Byte.the-variants as byte
-use Rattle.fields.specs.declared.Half.{Half}
-use Rattle.fields.specs.declared.Half.the-variants as half
-use Rattle.fields.specs.declared.Word.{Word}
-use Rattle.fields.specs.declared.Word.the-variants as word
-use Rattle.fields.specs.declared.Long.{Long}
-use Rattle.fields.specs.declared.Long.the-variants as long
-use Rattle.fields.specs.declared.Written.the-variants.{Done, Refused}
+use Rattle.fields.specs.Field.{readOf, put, stored, writeOf}
+use Rattle.fields.specs.Answers.{answerReadU8, answerReadU16, answerReadU32, answerReadU64}
+use Rattle.fields.specs.declared.ReadU8.{ReadU8}
+use Rattle.fields.specs.declared.ReadU8.the-variants as byte
+use Rattle.fields.specs.declared.ReadU16.{ReadU16}
+use Rattle.fields.specs.declared.ReadU16.the-variants as half
+use Rattle.fields.specs.declared.ReadU32.{ReadU32}
+use Rattle.fields.specs.declared.ReadU32.the-variants as word
+use Rattle.fields.specs.declared.ReadU64.{ReadU64}
+use Rattle.fields.specs.declared.ReadU64.the-variants as long
+use Rattle.fields.specs.declared.WriteBytes.the-variants.{Done, Refused}
 use Rattle.fields.proofs.Number.{length-bytes, number-joined, bytes-joined, number-one, bytes-one}
 
 by-test : (a b : ℕ) (t : Bool) → leb a b ≡ t → (a ≤ b) ⊎ (b < a)
@@ -35,18 +35,18 @@ pub le-or-lt : (a b : ℕ) → (a ≤ b) ⊎ (b < a)
 le-or-lt a b = by-test a b (leb a b) refl
 
 -- the refusal of a field, as the code makes it
-pub cut-short : (end : ℕ) → refuse short ≡ cut end
-unfolding cut
+pub cut-short : (end : ℕ) → refuseOf short ≡ cutOf end
+unfolding cutOf
 cut-short end = refl
 
 -- Reading, from the code's side: what a `return` answers is the field.
 module _ {A : Type 0} (value : ℕ → A) (refusal : Refusal → A) (big : Bool) (w : ℕ) (s : List ℕ) (at : ℕ) where
-  pub field-value : {n : ℕ} → at + w ≤ length s → n ≡ numberAt big w s at → value n ≡ fieldOf value refusal big w s at
-  unfolding fieldOf
+  pub field-value : {n : ℕ} → at + w ≤ length s → n ≡ numberAt big w s at → value n ≡ readOf value refusal big w s at
+  unfolding readOf
   field-value h e = rw (le-leb (at + w) (length s) h, e)
 
-  pub field-cut : {k : Refusal} → length s < at + w → k ≡ cut (at + w) → refusal k ≡ fieldOf value refusal big w s at
-  unfolding fieldOf
+  pub field-cut : {k : Refusal} → length s < at + w → k ≡ cutOf (at + w) → refusal k ≡ readOf value refusal big w s at
+  unfolding readOf
   field-cut h e = rw (lt-leb (at + w) (length s) h, e)
 
 never : {ns : List ℕ} {k : Refusal} → accepted ns ≡ refused k → ⊥
@@ -59,21 +59,21 @@ same-refusal : {k j : Refusal} → refused k ≡ refused j → k ≡ j
 same-refusal e = cc
 
 -- Reading, from the caller's side: what an answer tells, by what it stands for (`sees`).
-module _ {A : Type 0} (value : ℕ → A) (refusal : Refusal → A) (sees : A → Answer) (ns : ℕ → List ℕ) (v : (n : ℕ) → sees (value n) ≡ accepted (ns n)) (q : (k : Refusal) → sees (refusal k) ≡ refused k) (big : Bool) (w : ℕ) (s : List ℕ) (at : ℕ) {r : A} (e : r ≡ fieldOf value refusal big w s at) where
+module _ {A : Type 0} (value : ℕ → A) (refusal : Refusal → A) (sees : A → Answer) (ns : ℕ → List ℕ) (v : (n : ℕ) → sees (value n) ≡ accepted (ns n)) (q : (k : Refusal) → sees (refusal k) ≡ refused k) (big : Bool) (w : ℕ) (s : List ℕ) (at : ℕ) {r : A} (e : r ≡ readOf value refusal big w s at) where
   -- it is accepted: there was room, and the values are those of the field's number
   pub told-value : {ms : List ℕ} → sees r ≡ accepted ms → (at + w ≤ length s) × (ms ≡ ns (numberAt big w s at))
   told-value f =
       ⊎-elim
       (λ h. (h, same-values (sym f ∙ ap sees (e ∙ sym (field-value value refusal big w s at h refl)) ∙ v (numberAt big w s at))))
-      (λ h. absurd (never (sym f ∙ ap sees (e ∙ sym (field-cut value refusal big w s at h refl)) ∙ q (cut (at + w)))))
+      (λ h. absurd (never (sym f ∙ ap sees (e ∙ sym (field-cut value refusal big w s at h refl)) ∙ q (cutOf (at + w)))))
       (le-or-lt (at + w) (length s))
 
   -- it is refused: the field ends past the bytes, and the refusal is that of its end
-  pub told-cut : {k : Refusal} → sees r ≡ refused k → (length s < at + w) × (k ≡ cut (at + w))
+  pub told-cut : {k : Refusal} → sees r ≡ refused k → (length s < at + w) × (k ≡ cutOf (at + w))
   told-cut f =
       ⊎-elim
       (λ h. absurd (never (sym (v (numberAt big w s at)) ∙ ap sees (field-value value refusal big w s at h refl ∙ sym e) ∙ f)))
-      (λ h. (h, same-refusal (sym f ∙ ap sees (e ∙ sym (field-cut value refusal big w s at h refl)) ∙ q (cut (at + w)))))
+      (λ h. (h, same-refusal (sym f ∙ ap sees (e ∙ sym (field-cut value refusal big w s at h refl)) ∙ q (cutOf (at + w)))))
       (le-or-lt (at + w) (length s))
 
 -- what a read that found its number says
@@ -84,7 +84,7 @@ pub record Found (big : Bool) (w : ℕ) (s : List ℕ) (at n : ℕ) : Type 0 whe
 -- what a read that was cut says
 pub record Missed (w : ℕ) (s : List ℕ) (at : ℕ) (k : Refusal) : Type 0 where
   pub past : length s < at + w
-  pub why : k ≡ cut (at + w)
+  pub why : k ≡ cutOf (at + w)
 
 one-value : {a b : ℕ} → a ∷ [] ≡ b ∷ [] → a ≡ b
 one-value e = cc
@@ -92,36 +92,36 @@ one-value e = cc
 found-of : {big : Bool} {w : ℕ} {s : List ℕ} {at n : ℕ} → (at + w ≤ length s) × (n ∷ [] ≡ numberAt big w s at ∷ []) → Found big w s at n
 found-of p = record { inside = p .0; value = one-value (p .1) }
 
-pub missed-of : {w : ℕ} {s : List ℕ} {at : ℕ} {k : Refusal} → (length s < at + w) × (k ≡ cut (at + w)) → Missed w s at k
+pub missed-of : {w : ℕ} {s : List ℕ} {at : ℕ} {k : Refusal} → (length s < at + w) × (k ≡ cutOf (at + w)) → Missed w s at k
 missed-of p = record { past = p .0; why = p .1 }
 
-module _ (s : List ℕ) (at : ℕ) {r : Byte} (e : r ≡ fieldOf byte.Value byte.Refused false 1 s at) where
-  pub byte-found : {n : ℕ} → r ≡ byte.Value n → Found false 1 s at n
-  byte-found f = found-of (told-value byte.Value byte.Refused answerByte (λ n. n ∷ []) (λ n. refl) (λ k. refl) false 1 s at e (ap answerByte f))
+module _ (s : List ℕ) (at : ℕ) {r : ReadU8} (e : r ≡ readOf byte.Value byte.Refused false 1 s at) where
+  pub u8-found : {n : ℕ} → r ≡ byte.Value n → Found false 1 s at n
+  u8-found f = found-of (told-value byte.Value byte.Refused answerReadU8 (λ n. n ∷ []) (λ n. refl) (λ k. refl) false 1 s at e (ap answerReadU8 f))
 
-  pub byte-missed : {k : Refusal} → r ≡ byte.Refused k → Missed 1 s at k
-  byte-missed f = missed-of (told-cut byte.Value byte.Refused answerByte (λ n. n ∷ []) (λ n. refl) (λ k. refl) false 1 s at e (ap answerByte f))
+  pub u8-missed : {k : Refusal} → r ≡ byte.Refused k → Missed 1 s at k
+  u8-missed f = missed-of (told-cut byte.Value byte.Refused answerReadU8 (λ n. n ∷ []) (λ n. refl) (λ k. refl) false 1 s at e (ap answerReadU8 f))
 
-module _ (big : Bool) (s : List ℕ) (at : ℕ) {r : Half} (e : r ≡ fieldOf half.Value half.Refused big 2 s at) where
-  pub half-found : {n : ℕ} → r ≡ half.Value n → Found big 2 s at n
-  half-found f = found-of (told-value half.Value half.Refused answerHalf (λ n. n ∷ []) (λ n. refl) (λ k. refl) big 2 s at e (ap answerHalf f))
+module _ (big : Bool) (s : List ℕ) (at : ℕ) {r : ReadU16} (e : r ≡ readOf half.Value half.Refused big 2 s at) where
+  pub u16-found : {n : ℕ} → r ≡ half.Value n → Found big 2 s at n
+  u16-found f = found-of (told-value half.Value half.Refused answerReadU16 (λ n. n ∷ []) (λ n. refl) (λ k. refl) big 2 s at e (ap answerReadU16 f))
 
-  pub half-missed : {k : Refusal} → r ≡ half.Refused k → Missed 2 s at k
-  half-missed f = missed-of (told-cut half.Value half.Refused answerHalf (λ n. n ∷ []) (λ n. refl) (λ k. refl) big 2 s at e (ap answerHalf f))
+  pub u16-missed : {k : Refusal} → r ≡ half.Refused k → Missed 2 s at k
+  u16-missed f = missed-of (told-cut half.Value half.Refused answerReadU16 (λ n. n ∷ []) (λ n. refl) (λ k. refl) big 2 s at e (ap answerReadU16 f))
 
-module _ (big : Bool) (s : List ℕ) (at : ℕ) {r : Word} (e : r ≡ fieldOf word.Value word.Refused big 4 s at) where
-  pub word-found : {n : ℕ} → r ≡ word.Value n → Found big 4 s at n
-  word-found f = found-of (told-value word.Value word.Refused answerWord (λ n. n ∷ []) (λ n. refl) (λ k. refl) big 4 s at e (ap answerWord f))
+module _ (big : Bool) (s : List ℕ) (at : ℕ) {r : ReadU32} (e : r ≡ readOf word.Value word.Refused big 4 s at) where
+  pub u32-found : {n : ℕ} → r ≡ word.Value n → Found big 4 s at n
+  u32-found f = found-of (told-value word.Value word.Refused answerReadU32 (λ n. n ∷ []) (λ n. refl) (λ k. refl) big 4 s at e (ap answerReadU32 f))
 
-  pub word-missed : {k : Refusal} → r ≡ word.Refused k → Missed 4 s at k
-  word-missed f = missed-of (told-cut word.Value word.Refused answerWord (λ n. n ∷ []) (λ n. refl) (λ k. refl) big 4 s at e (ap answerWord f))
+  pub u32-missed : {k : Refusal} → r ≡ word.Refused k → Missed 4 s at k
+  u32-missed f = missed-of (told-cut word.Value word.Refused answerReadU32 (λ n. n ∷ []) (λ n. refl) (λ k. refl) big 4 s at e (ap answerReadU32 f))
 
-module _ (big : Bool) (s : List ℕ) (at : ℕ) {r : Long} (e : r ≡ fieldOf long.Value long.Refused big 8 s at) where
-  pub long-found : {n : ℕ} → r ≡ long.Value n → Found big 8 s at n
-  long-found f = found-of (told-value long.Value long.Refused answerLong (λ n. n ∷ []) (λ n. refl) (λ k. refl) big 8 s at e (ap answerLong f))
+module _ (big : Bool) (s : List ℕ) (at : ℕ) {r : ReadU64} (e : r ≡ readOf long.Value long.Refused big 8 s at) where
+  pub u64-found : {n : ℕ} → r ≡ long.Value n → Found big 8 s at n
+  u64-found f = found-of (told-value long.Value long.Refused answerReadU64 (λ n. n ∷ []) (λ n. refl) (λ k. refl) big 8 s at e (ap answerReadU64 f))
 
-  pub long-missed : {k : Refusal} → r ≡ long.Refused k → Missed 8 s at k
-  long-missed f = missed-of (told-cut long.Value long.Refused answerLong (λ n. n ∷ []) (λ n. refl) (λ k. refl) big 8 s at e (ap answerLong f))
+  pub u64-missed : {k : Refusal} → r ≡ long.Refused k → Missed 8 s at k
+  u64-missed f = missed-of (told-cut long.Value long.Refused answerReadU64 (λ n. n ∷ []) (λ n. refl) (λ k. refl) big 8 s at e (ap answerReadU64 f))
 
 -- one byte is the same in either order
 pub byte-order : (big : Bool) (s : List ℕ) (at : ℕ) {n : ℕ} → Found false 1 s at n → Found big 1 s at n
@@ -170,12 +170,12 @@ put-joined big t et w a b n o l m at i h ha hb en el ei em =
 
 -- Storing bytes of a length that the code has tested for.
 module _ (w : ℕ) (o : List ℕ) (at : ℕ) (bs : List ℕ) (lb : length bs ≡ w) where
-  pub store-done : {l : List ℕ} → at + w ≤ length o → l ≡ put o at bs → (Done ≡ writtenIn w o at) × (l ≡ stored o at bs)
-  unfolding writtenIn stored
+  pub store-done : {l : List ℕ} → at + w ≤ length o → l ≡ put o at bs → (Done ≡ writeOf w o at) × (l ≡ stored o at bs)
+  unfolding writeOf stored
   store-done h e = rw (lb, le-leb (at + w) (length o) h) (refl, e)
 
-  pub store-refused : {k : Refusal} → length o < at + w → k ≡ refuse room → (Refused k ≡ writtenIn w o at) × (o ≡ stored o at bs)
-  unfolding writtenIn stored
+  pub store-refused : {k : Refusal} → length o < at + w → k ≡ refuseOf room → (Refused k ≡ writeOf w o at) × (o ≡ stored o at bs)
+  unfolding writeOf stored
   store-refused h e = rw (lb, lt-leb (at + w) (length o) h, e) (refl, refl)
 
   -- what was stored where there is room was put

@@ -10,16 +10,16 @@ use lib.Seq.{drop-drop, drop-at}
 use Rattle.answer.proofs.Unique.{same, same-both}
 use Rattle.answer.specs.declared.Refusal.{Refusal}
 use Rattle.fields.specs.Number.{numberAt, bytesOf, Bytes}
-use Rattle.fields.specs.Field.{inside, fieldOf, put, stored, writtenIn}
-use Rattle.fields.specs.declared.Byte.{Byte}
-use Rattle.fields.specs.declared.Byte.the-variants as byte
-use Rattle.fields.specs.declared.Half.{Half}
-use Rattle.fields.specs.declared.Half.the-variants as half
-use Rattle.fields.specs.declared.Word.{Word}
-use Rattle.fields.specs.declared.Word.the-variants as word
-use Rattle.fields.specs.declared.Long.{Long}
-use Rattle.fields.specs.declared.Long.the-variants as long
-use Rattle.fields.specs.declared.Written.{Written}
+use Rattle.fields.specs.Field.{fitsOf, readOf, put, stored, writeOf}
+use Rattle.fields.specs.declared.ReadU8.{ReadU8}
+use Rattle.fields.specs.declared.ReadU8.the-variants as byte
+use Rattle.fields.specs.declared.ReadU16.{ReadU16}
+use Rattle.fields.specs.declared.ReadU16.the-variants as half
+use Rattle.fields.specs.declared.ReadU32.{ReadU32}
+use Rattle.fields.specs.declared.ReadU32.the-variants as word
+use Rattle.fields.specs.declared.ReadU64.{ReadU64}
+use Rattle.fields.specs.declared.ReadU64.the-variants as long
+use Rattle.fields.specs.declared.WriteBytes.{WriteBytes}
 use Rattle.fields.proofs.Number.{length-bytes, number-written, bytes-read}
 use Rattle.fields.proofs.Laws.{field-value, length-put, store-refused, stored-put}
 
@@ -34,7 +34,7 @@ unfolding numberAt
 number-from big w s t at e = rw e
 
 -- A number that was written where there is room is read again, whatever the bytes were.
-pub read-written : {A : Type 0} (value : ℕ → A) (refusal : Refusal → A) (big : Bool) (w n : ℕ) (o : List ℕ) (at : ℕ) → n < 256 ^ w → at + w ≤ length o → fieldOf value refusal big w (stored o at (bytesOf big w n)) at ≡ value n
+pub read-written : {A : Type 0} (value : ℕ → A) (refusal : Refusal → A) (big : Bool) (w n : ℕ) (o : List ℕ) (at : ℕ) → n < 256 ^ w → at + w ≤ length o → readOf value refusal big w (stored o at (bytesOf big w n)) at ≡ value n
 read-written value refusal big w n o at h r =
     let b : List ℕ = bytesOf big w n in
     let l : length b ≡ w = length-bytes big w n in
@@ -56,21 +56,21 @@ pub stored-refused : (o : List ℕ) (at : ℕ) (bs : List ℕ) → length o < at
 stored-refused o at bs h = sym (store-refused (length bs) o at bs refl h refl .1)
 
 -- Two answers that meet a promise of this crate are equal.
-pub read-u8-unique : (s : List ℕ) (at : ℕ) {r q : Byte} → r ≡ fieldOf byte.Value byte.Refused false 1 s at → q ≡ fieldOf byte.Value byte.Refused false 1 s at → r ≡ q
+pub read-u8-unique : (s : List ℕ) (at : ℕ) {r q : ReadU8} → r ≡ readOf byte.Value byte.Refused false 1 s at → q ≡ readOf byte.Value byte.Refused false 1 s at → r ≡ q
 read-u8-unique s at = same
 
-pub read-u16-unique : (s : List ℕ) (at : ℕ) (big : Bool) {r q : Half} → r ≡ fieldOf half.Value half.Refused big 2 s at → q ≡ fieldOf half.Value half.Refused big 2 s at → r ≡ q
+pub read-u16-unique : (s : List ℕ) (at : ℕ) (big : Bool) {r q : ReadU16} → r ≡ readOf half.Value half.Refused big 2 s at → q ≡ readOf half.Value half.Refused big 2 s at → r ≡ q
 read-u16-unique s at big = same
 
-pub read-u32-unique : (s : List ℕ) (at : ℕ) (big : Bool) {r q : Word} → r ≡ fieldOf word.Value word.Refused big 4 s at → q ≡ fieldOf word.Value word.Refused big 4 s at → r ≡ q
+pub read-u32-unique : (s : List ℕ) (at : ℕ) (big : Bool) {r q : ReadU32} → r ≡ readOf word.Value word.Refused big 4 s at → q ≡ readOf word.Value word.Refused big 4 s at → r ≡ q
 read-u32-unique s at big = same
 
-pub read-u64-unique : (s : List ℕ) (at : ℕ) (big : Bool) {r q : Long} → r ≡ fieldOf long.Value long.Refused big 8 s at → q ≡ fieldOf long.Value long.Refused big 8 s at → r ≡ q
+pub read-u64-unique : (s : List ℕ) (at : ℕ) (big : Bool) {r q : ReadU64} → r ≡ readOf long.Value long.Refused big 8 s at → q ≡ readOf long.Value long.Refused big 8 s at → r ≡ q
 read-u64-unique s at big = same
 
 -- of `write_u8`, `write_u16`, `write_u32` and `write_u64`, with w = 1, 2, 4 and 8
-pub write-unique : (w : ℕ) (big : Bool) (n : ℕ) (o : List ℕ) (at : ℕ) {r q : Written} {l k : List ℕ} → (r ≡ writtenIn w o at) × (l ≡ stored o at (bytesOf big w n)) → (q ≡ writtenIn w o at) × (k ≡ stored o at (bytesOf big w n)) → (r ≡ q) × (l ≡ k)
+pub write-unique : (w : ℕ) (big : Bool) (n : ℕ) (o : List ℕ) (at : ℕ) {r q : WriteBytes} {l k : List ℕ} → (r ≡ writeOf w o at) × (l ≡ stored o at (bytesOf big w n)) → (q ≡ writeOf w o at) × (k ≡ stored o at (bytesOf big w n)) → (r ≡ q) × (l ≡ k)
 write-unique w big n o at = same-both
 
-pub fits-unique : (len at width : ℕ) {r q : Bool} → r ≡ inside len at width → q ≡ inside len at width → r ≡ q
+pub fits-unique : (len at width : ℕ) {r q : Bool} → r ≡ fitsOf len at width → q ≡ fitsOf len at width → r ≡ q
 fits-unique len at width = same

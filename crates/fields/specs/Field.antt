@@ -7,20 +7,20 @@ use mathlib.Core.Bool.{Bool}
 use lib.ListN.{length, take, drop}
 use lib.Dec.{leb}
 use Rattle.answer.specs.Test.{pick}
-use Rattle.answer.specs.Answer.{refuse, cut, room}
+use Rattle.answer.specs.Answer.{refuseOf, cutOf, room}
 use Rattle.answer.specs.declared.Refusal.{Refusal}
 use Rattle.fields.specs.Number.{numberAt}
-use Rattle.fields.specs.declared.Written.{Written}
-use Rattle.fields.specs.declared.Written.the-variants.{Done, Refused}
+use Rattle.fields.specs.declared.WriteBytes.{WriteBytes}
+use Rattle.fields.specs.declared.WriteBytes.the-variants.{Done, Refused}
 
 -- `w` bytes from `at` lie within `len` bytes; the sum is a number without bound, so it never wraps
-abbrev pub inside : ℕ → ℕ → ℕ → Bool
-inside len at w = leb (at + w) len
+abbrev pub fitsOf : ℕ → ℕ → ℕ → Bool
+fitsOf len at w = leb (at + w) len
 
 -- reading: `value` of the number, or `refused` of the refusal at the field's end
-unfoldable pub fieldOf : {A : Type 0} → (ℕ → A) → (Refusal → A) → Bool → ℕ → List ℕ → ℕ → A
-fieldOf value refused big w s at =
-    pick (leb (at + w) (length s)) (value (numberAt big w s at)) (refused (cut (at + w)))
+unfoldable pub readOf : {A : Type 0} → (ℕ → A) → (Refusal → A) → Bool → ℕ → List ℕ → ℕ → A
+readOf value refused big w s at =
+    pick (leb (at + w) (length s)) (value (numberAt big w s at)) (refused (cutOf (at + w)))
 
 -- the bytes `o` with `bs` in place of its own from `at`
 unfoldable pub put : List ℕ → ℕ → List ℕ → List ℕ
@@ -31,5 +31,5 @@ unfoldable pub stored : List ℕ → ℕ → List ℕ → List ℕ
 stored o at bs = pick (leb (at + length bs) (length o)) (put o at bs) o
 
 -- writing `w` bytes: what is answered
-unfoldable pub writtenIn : ℕ → List ℕ → ℕ → Written
-writtenIn w o at = pick (leb (at + w) (length o)) Done (Refused (refuse room))
+unfoldable pub writeOf : ℕ → List ℕ → ℕ → WriteBytes
+writeOf w o at = pick (leb (at + w) (length o)) Done (Refused (refuseOf room))

@@ -4,124 +4,124 @@ ghost use mathlib.Core.Path.{_≡_};
 ghost use Prim.Native.Nat.{_+_, _≤_};
 ghost use mathlib.Core.Bool.{false};
 ghost use lib.ListN.{length};
-ghost use Rattle.answer.specs.Answer.{refuse, short, room};
+ghost use Rattle.answer.specs.Answer.{refuseOf, short, room};
 ghost use Rattle.fields.specs.Number.{bytesOf, joined};
-ghost use Rattle.fields.specs.Field.{inside, fieldOf, put, stored, writtenIn};
+ghost use Rattle.fields.specs.Field.{fitsOf, readOf, put, stored, writeOf};
 use answer::Refusal;
 
-pub enum Byte {
+pub enum ReadU8 {
     Value(u8),
     Refused(Refusal),
 }
 
-pub enum Half {
+pub enum ReadU16 {
     Value(u16),
     Refused(Refusal),
 }
 
-pub enum Word {
+pub enum ReadU32 {
     Value(u32),
     Refused(Refusal),
 }
 
-pub enum Long {
+pub enum ReadU64 {
     Value(u64),
     Refused(Refusal),
 }
 
-pub enum Written {
+pub enum WriteBytes {
     Done,
     Refused(Refusal),
 }
 
-pub fn read_u8(s: &[u8], at: usize) -> Byte
-    ensures { λ r. ⌜ r ≡ fieldOf Byte.Value Byte.Refused false 1 (now (s .entry)) at ⌝ }
+pub fn read_u8(s: &[u8], at: usize) -> ReadU8
+    ensures { λ r. ⌜ r ≡ readOf ReadU8.Value ReadU8.Refused false 1 (now (s .entry)) at ⌝ }
 {
     if at < s.len() {
-        return Byte::Value(s[at]);
+        return ReadU8::Value(s[at]);
     }
-    Byte::Refused(cut())
+    ReadU8::Refused(cut())
 }
 
-pub fn read_u16(s: &[u8], at: usize, big: bool) -> Half
-    ensures { λ r. ⌜ r ≡ fieldOf Half.Value Half.Refused big 2 (now (s .entry)) at ⌝ }
+pub fn read_u16(s: &[u8], at: usize, big: bool) -> ReadU16
+    ensures { λ r. ⌜ r ≡ readOf ReadU16.Value ReadU16.Refused big 2 (now (s .entry)) at ⌝ }
 {
-    let Byte::Value(first) = read_u8(s, at) else {
-        return Half::Refused(cut());
+    let ReadU8::Value(first) = read_u8(s, at) else {
+        return ReadU16::Refused(cut());
     };
-    let Byte::Value(second) = read_u8(s, at + 1) else {
-        return Half::Refused(cut());
+    let ReadU8::Value(second) = read_u8(s, at + 1) else {
+        return ReadU16::Refused(cut());
     };
-    Half::Value(half_of(first, second, big))
+    ReadU16::Value(u16_of(first, second, big))
 }
 
-pub fn read_u32(s: &[u8], at: usize, big: bool) -> Word
-    ensures { λ r. ⌜ r ≡ fieldOf Word.Value Word.Refused big 4 (now (s .entry)) at ⌝ }
+pub fn read_u32(s: &[u8], at: usize, big: bool) -> ReadU32
+    ensures { λ r. ⌜ r ≡ readOf ReadU32.Value ReadU32.Refused big 4 (now (s .entry)) at ⌝ }
 {
-    let Half::Value(first) = read_u16(s, at, big) else {
-        return Word::Refused(cut());
+    let ReadU16::Value(first) = read_u16(s, at, big) else {
+        return ReadU32::Refused(cut());
     };
-    let Half::Value(second) = read_u16(s, at + 2, big) else {
-        return Word::Refused(cut());
+    let ReadU16::Value(second) = read_u16(s, at + 2, big) else {
+        return ReadU32::Refused(cut());
     };
-    Word::Value(word_of(first, second, big))
+    ReadU32::Value(u32_of(first, second, big))
 }
 
-pub fn read_u64(s: &[u8], at: usize, big: bool) -> Long
-    ensures { λ r. ⌜ r ≡ fieldOf Long.Value Long.Refused big 8 (now (s .entry)) at ⌝ }
+pub fn read_u64(s: &[u8], at: usize, big: bool) -> ReadU64
+    ensures { λ r. ⌜ r ≡ readOf ReadU64.Value ReadU64.Refused big 8 (now (s .entry)) at ⌝ }
 {
-    let Word::Value(first) = read_u32(s, at, big) else {
-        return Long::Refused(cut());
+    let ReadU32::Value(first) = read_u32(s, at, big) else {
+        return ReadU64::Refused(cut());
     };
-    let Word::Value(second) = read_u32(s, at + 4, big) else {
-        return Long::Refused(cut());
+    let ReadU32::Value(second) = read_u32(s, at + 4, big) else {
+        return ReadU64::Refused(cut());
     };
-    Long::Value(long_of(first, second, big))
+    ReadU64::Value(u64_of(first, second, big))
 }
 
-pub fn write_u8(out: &mut [u8], at: usize, n: u8) -> Written
-    ensures { λ r. ⌜ (r ≡ writtenIn 1 (now (out .entry)) at) × (now (out .exit) ≡ stored (now (out .entry)) at (bytesOf false 1 n)) ⌝ }
+pub fn write_u8(out: &mut [u8], at: usize, n: u8) -> WriteBytes
+    ensures { λ r. ⌜ (r ≡ writeOf 1 (now (out .entry)) at) × (now (out .exit) ≡ stored (now (out .entry)) at (bytesOf false 1 n)) ⌝ }
 {
     if at < out.len() {
         put_u8(out, at, n);
-        return Written::Done;
+        return WriteBytes::Done;
     }
-    Written::Refused(no_room())
+    WriteBytes::Refused(no_room())
 }
 
-pub fn write_u16(out: &mut [u8], at: usize, n: u16, big: bool) -> Written
-    ensures { λ r. ⌜ (r ≡ writtenIn 2 (now (out .entry)) at) × (now (out .exit) ≡ stored (now (out .entry)) at (bytesOf big 2 n)) ⌝ }
+pub fn write_u16(out: &mut [u8], at: usize, n: u16, big: bool) -> WriteBytes
+    ensures { λ r. ⌜ (r ≡ writeOf 2 (now (out .entry)) at) × (now (out .exit) ≡ stored (now (out .entry)) at (bytesOf big 2 n)) ⌝ }
 {
     if fits(out.len(), at, 2) {
         put_u16(out, at, n, big);
-        return Written::Done;
+        return WriteBytes::Done;
     }
-    Written::Refused(no_room())
+    WriteBytes::Refused(no_room())
 }
 
-pub fn write_u32(out: &mut [u8], at: usize, n: u32, big: bool) -> Written
-    ensures { λ r. ⌜ (r ≡ writtenIn 4 (now (out .entry)) at) × (now (out .exit) ≡ stored (now (out .entry)) at (bytesOf big 4 n)) ⌝ }
+pub fn write_u32(out: &mut [u8], at: usize, n: u32, big: bool) -> WriteBytes
+    ensures { λ r. ⌜ (r ≡ writeOf 4 (now (out .entry)) at) × (now (out .exit) ≡ stored (now (out .entry)) at (bytesOf big 4 n)) ⌝ }
 {
     if fits(out.len(), at, 4) {
         put_u32(out, at, n, big);
-        return Written::Done;
+        return WriteBytes::Done;
     }
-    Written::Refused(no_room())
+    WriteBytes::Refused(no_room())
 }
 
-pub fn write_u64(out: &mut [u8], at: usize, n: u64, big: bool) -> Written
-    ensures { λ r. ⌜ (r ≡ writtenIn 8 (now (out .entry)) at) × (now (out .exit) ≡ stored (now (out .entry)) at (bytesOf big 8 n)) ⌝ }
+pub fn write_u64(out: &mut [u8], at: usize, n: u64, big: bool) -> WriteBytes
+    ensures { λ r. ⌜ (r ≡ writeOf 8 (now (out .entry)) at) × (now (out .exit) ≡ stored (now (out .entry)) at (bytesOf big 8 n)) ⌝ }
 {
     if fits(out.len(), at, 8) {
         put_u64(out, at, n, big);
-        return Written::Done;
+        return WriteBytes::Done;
     }
-    Written::Refused(no_room())
+    WriteBytes::Refused(no_room())
 }
 
 // Whether `width` bytes from `at` lie within `len` bytes.
 pub fn fits(len: usize, at: usize, width: usize) -> bool
-    ensures { λ r. ⌜ r ≡ inside len at width ⌝ }
+    ensures { λ r. ⌜ r ≡ fitsOf len at width ⌝ }
 {
     if len < width {
         return false;
@@ -133,7 +133,7 @@ pub fn fits(len: usize, at: usize, width: usize) -> bool
 }
 
 fn cut() -> Refusal
-    ensures { λ r. ⌜ r ≡ refuse short ⌝ }
+    ensures { λ r. ⌜ r ≡ refuseOf short ⌝ }
 {
     Refusal {
         number: answer::SHORT,
@@ -141,14 +141,14 @@ fn cut() -> Refusal
 }
 
 fn no_room() -> Refusal
-    ensures { λ r. ⌜ r ≡ refuse room ⌝ }
+    ensures { λ r. ⌜ r ≡ refuseOf room ⌝ }
 {
     Refusal {
         number: answer::ROOM,
     }
 }
 
-fn half_of(first: u8, second: u8, big: bool) -> u16
+fn u16_of(first: u8, second: u8, big: bool) -> u16
     ensures { λ r. ⌜ r ≡ joined big 1 first second ⌝ }
 {
     if big {
@@ -157,7 +157,7 @@ fn half_of(first: u8, second: u8, big: bool) -> u16
     256 * (second as u16) + (first as u16)
 }
 
-fn word_of(first: u16, second: u16, big: bool) -> u32
+fn u32_of(first: u16, second: u16, big: bool) -> u32
     ensures { λ r. ⌜ r ≡ joined big 2 first second ⌝ }
 {
     if big {
@@ -166,7 +166,7 @@ fn word_of(first: u16, second: u16, big: bool) -> u32
     65536 * (second as u32) + (first as u32)
 }
 
-fn long_of(first: u32, second: u32, big: bool) -> u64
+fn u64_of(first: u32, second: u32, big: bool) -> u64
     ensures { λ r. ⌜ r ≡ joined big 4 first second ⌝ }
 {
     if big {

@@ -12,10 +12,10 @@ use lib.ListN.{length, getD, take, drop, set, length-append, length-take}
 use lib.Seq.{take-all, take-suc-set, split-at}
 use borrow.Author.Tests.{le-leb, lt-leb}
 use Rattle.answer.specs.declared.Refusal.{Refusal}
-use Rattle.answer.specs.Answer.{cut, refuse, room}
+use Rattle.answer.specs.Answer.{cutOf, refuseOf, room}
 use Rattle.fields.specs.Number.{numberAt, bytesOf}
-use Rattle.fields.specs.Field.{put, stored, writtenIn}
-use Rattle.fields.specs.declared.Written.the-variants.{Done, Refused}
+use Rattle.fields.specs.Field.{put, stored, writeOf}
+use Rattle.fields.specs.declared.WriteBytes.the-variants.{Done, Refused}
 use Rattle.fields.proofs.Number.{length-bytes}
 use Rattle.fields.proofs.Laws.{Missed, le-or-lt, put-sets, put-both, length-put, stored-put, store-done, store-refused}
 use Rattle.layout.specs.Layout.{array, size, readBy, numbersAt, writeBy}
@@ -98,10 +98,10 @@ module _ (big : Bool) (ws : List ℕ) (k : ℕ) (h : k < length ws) where
       ∙ ap (λ (l : List ℕ). readBy full short big l s at) (sym (split-at ws k 0 h))
 
   -- the same, by the answer of the field's own read, passed on
-  pub missed-at : {A : Type 0} (full : List ℕ → A) (refusal : Refusal → A) (s : List ℕ) (at i : ℕ) {q : Refusal} → Missed (getD ws k 0) s i q → i ≡ at + size (take k ws) → (0 < k → i ≤ length s) → refusal q ≡ readBy full (λ end. refusal (cut end)) big ws s at
+  pub missed-at : {A : Type 0} (full : List ℕ → A) (refusal : Refusal → A) (s : List ℕ) (at i : ℕ) {q : Refusal} → Missed (getD ws k 0) s i q → i ≡ at + size (take k ws) → (0 < k → i ≤ length s) → refusal q ≡ readBy full (λ end. refusal (cutOf end)) big ws s at
   missed-at full refusal s at i m e r =
       let past : length s < at + size (take k ws) + getD ws k 0 = omega (arith, m .past) in
-      rw (m .why, e) (cut-at full (λ end. refusal (cut end)) s at (λ z. omega (arith, r z)) past)
+      rw (m .why, e) (cut-at full (λ end. refusal (cutOf end)) s at (λ z. omega (arith, r z)) past)
 
   -- writing: its bytes are put after theirs
   put-at : (ns o l m : List ℕ) (at i : ℕ) → l ≡ put o at (writeBy big (take k ws) ns) → i ≡ at + size (take k ws) → at + size (take k ws) + getD ws k 0 ≤ length o → m ≡ put l i (bytesOf big (getD ws k 0) (getD ns k 0)) → m ≡ put o at (writeBy big (take (suc k) ws) ns)
@@ -126,10 +126,10 @@ unfolding writeBy
 put-none big ns o at h = put-sets o at [] (omega arith)
 
 module _ (big : Bool) (ws ns o : List ℕ) (at : ℕ) where
-  pub record-done : {l : List ℕ} → at + size ws ≤ length o → l ≡ put o at (writeBy big ws ns) → (Done ≡ writtenIn (size ws) o at) × (l ≡ stored o at (writeBy big ws ns))
+  pub record-done : {l : List ℕ} → at + size ws ≤ length o → l ≡ put o at (writeBy big ws ns) → (Done ≡ writeOf (size ws) o at) × (l ≡ stored o at (writeBy big ws ns))
   record-done h e = store-done (size ws) o at (writeBy big ws ns) (length-write big ws ns) h e
 
-  pub record-refused : {q : Refusal} → length o < at + size ws → q ≡ refuse room → (Refused q ≡ writtenIn (size ws) o at) × (o ≡ stored o at (writeBy big ws ns))
+  pub record-refused : {q : Refusal} → length o < at + size ws → q ≡ refuseOf room → (Refused q ≡ writeOf (size ws) o at) × (o ≡ stored o at (writeBy big ws ns))
   record-refused h e = store-refused (size ws) o at (writeBy big ws ns) (length-write big ws ns) h e
 
 -- A run of one width: the field after `k` of them.

@@ -1,6 +1,6 @@
 // Answers to request lines, as text (docs/ASK.md): `ok` or `no NUMBER`, then numbers and bytes, or `?` with what is wrong.
 use answer::Refusal;
-use fields::Written;
+use fields::WriteBytes;
 use request::Request;
 
 // Whether a door of that name was there, and where the text ends.
@@ -47,10 +47,10 @@ pub fn refused(out: &mut [u8; 65536], at: usize, k: Refusal) -> usize {
 }
 
 // What a write answered, and the bytes as they are then.
-pub fn written(w: Written, s: &[u8], out: &mut [u8; 65536], at: usize) -> usize {
+pub fn written(w: WriteBytes, s: &[u8], out: &mut [u8; 65536], at: usize) -> usize {
     let first = match w {
-        Written::Done => ok(out, at),
-        Written::Refused(k) => refusal(out, at, k),
+        WriteBytes::Done => ok(out, at),
+        WriteBytes::Refused(k) => refusal(out, at, k),
     };
     let last = bytes(out, first, s);
     end(out, last)

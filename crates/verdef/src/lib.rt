@@ -1,8 +1,8 @@
 // The version definitions of a file (SHT_GNU_verdef): the list of them, and the list of one's auxiliaries, which are names.
 ghost use mathlib.Core.Path.{_≡_};
-ghost use Rattle.verdef.specs.Verdef.{definitionsIn, definitionsOut, auxiliariesIn, auxiliariesOut};
-use version_record::Kind;
-use version_section::Counted;
+ghost use Rattle.verdef.specs.Verdef.{definitionsOf, definitionsOut, auxiliariesOf, auxiliariesOut};
+use version_record::VersionRecord;
+use version_section::CountEntries;
 
 // The numbers of a definition's row, and where each stands in it.
 pub const NUMBERS: usize = 8;
@@ -40,10 +40,10 @@ pub fn definitions(
     stated: usize,
     big: bool,
     out: &mut [u32],
-) -> Counted
-    ensures { λ r. ⌜ (r ≡ definitionsIn big (now (file .entry)) start len stated (now (out .entry))) × (now (out .exit) ≡ definitionsOut big (now (file .entry)) start len stated (now (out .entry))) ⌝ }
+) -> CountEntries
+    ensures { λ r. ⌜ (r ≡ definitionsOf big (now (file .entry)) start len stated (now (out .entry))) × (now (out .exit) ≡ definitionsOut big (now (file .entry)) start len stated (now (out .entry))) ⌝ }
 {
-    version_list::list(file, start, len, stated, 0, big, Kind::Verdef, out)
+    version_list::list(file, start, len, stated, 0, big, VersionRecord::Verdef, out)
 }
 
 // The auxiliaries of a definition of that section, by its row: its place, and how far from it and how many they are.
@@ -56,9 +56,18 @@ pub fn auxiliaries(
     cnt: u32,
     big: bool,
     out: &mut [u32],
-) -> Counted
-    ensures { λ r. ⌜ (r ≡ auxiliariesIn big (now (file .entry)) start len place aux cnt (now (out .entry))) × (now (out .exit) ≡ auxiliariesOut big (now (file .entry)) start len place aux cnt (now (out .entry))) ⌝ }
+) -> CountEntries
+    ensures { λ r. ⌜ (r ≡ auxiliariesOf big (now (file .entry)) start len place aux cnt (now (out .entry))) × (now (out .exit) ≡ auxiliariesOut big (now (file .entry)) start len place aux cnt (now (out .entry))) ⌝ }
 {
     let at = (place as usize) + (aux as usize);
-    version_list::list(file, start, len, cnt as usize, at, big, Kind::Verdaux, out)
+    version_list::list(
+        file,
+        start,
+        len,
+        cnt as usize,
+        at,
+        big,
+        VersionRecord::Verdaux,
+        out,
+    )
 }

@@ -5,18 +5,18 @@ use mathlib.Core.List.{List, [], _∷_, _++_}
 use mathlib.Core.Bool.{true, false}
 use Prim.Native.Nat.{ℕ}
 use lib.ListN.{replicate}
-use Rattle.answer.specs.Answer.{refuse, limit, room}
+use Rattle.answer.specs.Answer.{refuseOf, limit, room}
 use Rattle.answer.specs.Test.{must}
 use Rattle.fields.specs.Number.{numberAt}
 use Rattle.fields.specs.Field.{put, stored}
 use Rattle.layout.specs.Layout.{readBy, numbersAt}
 use Rattle.version_section.specs.Section.{sectionOf}
-use Rattle.version_section.specs.declared.Counted.the-variants.{Whole, Cut, Refused}
-use Rattle.version_record.specs.Record.{auxInside, stepAt}
-use Rattle.version_record.specs.declared.Kind.the-variants.{Verneed}
+use Rattle.version_section.specs.declared.CountEntries.the-variants.{Whole, Cut, Refused}
+use Rattle.version_record.specs.Record.{auxInside, onwardAtOf}
+use Rattle.version_record.specs.declared.VersionRecord.the-variants.{Verneed}
 use Rattle.version_list.proofs.Theorems.{Mirrors}
-use Rattle.version_list.specs.List.{walk, countedOf, outOf, opened, listed, listedOut}
-use Rattle.verneed.specs.Verneed.{needsIn, needsOut, auxiliariesIn, auxiliariesOut}
+use Rattle.version_list.specs.List.{entriesFrom, countedOf, outOf, opened, listOf, listOut}
+use Rattle.verneed.specs.Verneed.{needsOf, needsOut, auxiliariesOf, auxiliariesOut}
 
 -- a need of one version and, at 32, one of two, the most significant byte first
 abbrev section : List ℕ
@@ -32,17 +32,17 @@ first = 0 ∷ 1 ∷ 1 ∷ 40 ∷ 16 ∷ 32 ∷ []
 abbrev second : List ℕ
 second = 32 ∷ 1 ∷ 2 ∷ 60 ∷ 16 ∷ 0 ∷ []
 
-both : needsIn true section 0 64 2 (replicate 12 3) ≡ Whole 2
-unfolding needsIn listed opened countedOf walk stepAt auxInside readBy numberAt numbersAt sectionOf must
+both : needsOf true section 0 64 2 (replicate 12 3) ≡ Whole 2
+unfolding needsOf listOf opened countedOf entriesFrom onwardAtOf auxInside readBy numberAt numbersAt sectionOf must
 both = refl
 
 both-written : needsOut true section 0 64 2 (replicate 12 3) ≡ first ++ second
-unfolding needsOut listedOut opened outOf walk stepAt auxInside readBy numberAt numbersAt sectionOf must stored put
+unfolding needsOut listOut opened outOf entriesFrom onwardAtOf auxInside readBy numberAt numbersAt sectionOf must stored put
 both-written = refl
 
 -- in the other order the auxiliary offset of the first is past the section
-other-order : needsIn false section 0 64 2 (replicate 12 3) ≡ Cut 0
-unfolding needsIn listed opened countedOf walk stepAt auxInside readBy numberAt numbersAt sectionOf must
+other-order : needsOf false section 0 64 2 (replicate 12 3) ≡ Cut 0
+unfolding needsOf listOf opened countedOf entriesFrom onwardAtOf auxInside readBy numberAt numbersAt sectionOf must
 other-order = refl
 
 -- the section with the bytes of each field reversed
@@ -55,35 +55,35 @@ swapped =
 
 -- it is what `list-mirrored` asks of a byte-swapped section
 mirrored : Mirrors Verneed true section swapped 2 0
-unfolding stepAt auxInside readBy numberAt
+unfolding onwardAtOf auxInside readBy numberAt
 mirrored = ((λ h. (refl, (refl, (refl, (refl, (refl, tt)))))), ((λ h. (refl, (refl, (refl, (refl, (refl, tt)))))), tt))
 
 swapped-written : needsOut false swapped 0 64 2 (replicate 12 3) ≡ first ++ second
-unfolding needsOut listedOut opened outOf walk stepAt auxInside readBy numberAt numbersAt sectionOf must stored put
+unfolding needsOut listOut opened outOf entriesFrom onwardAtOf auxInside readBy numberAt numbersAt sectionOf must stored put
 swapped-written = refl
 
-no-room : needsIn true section 0 64 2 (replicate 11 3) ≡ Refused (refuse room)
-unfolding needsIn listed opened countedOf walk stepAt auxInside readBy numberAt numbersAt sectionOf must
+no-room : needsOf true section 0 64 2 (replicate 11 3) ≡ Refused (refuseOf room)
+unfolding needsOf listOf opened countedOf entriesFrom onwardAtOf auxInside readBy numberAt numbersAt sectionOf must
 no-room = refl
 
 no-room-written : needsOut true section 0 64 2 (replicate 11 3) ≡ replicate 11 3
-unfolding needsOut listedOut opened outOf walk stepAt auxInside readBy numberAt numbersAt sectionOf must stored put
+unfolding needsOut listOut opened outOf entriesFrom onwardAtOf auxInside readBy numberAt numbersAt sectionOf must stored put
 no-room-written = refl
 
 -- the second auxiliary of the second need would end past the section: the first is listed, with 1 beside it
-versions : auxiliariesIn true section 0 64 32 16 2 (replicate 6 3) ≡ Cut 1
-unfolding auxiliariesIn listed opened countedOf walk stepAt auxInside readBy numberAt numbersAt sectionOf must
+versions : auxiliariesOf true section 0 64 32 16 2 (replicate 6 3) ≡ Cut 1
+unfolding auxiliariesOf listOf opened countedOf entriesFrom onwardAtOf auxInside readBy numberAt numbersAt sectionOf must
 versions = refl
 
 versions-written : auxiliariesOut true section 0 64 32 16 2 (replicate 6 3) ≡ 48 ∷ 256 ∷ 2 ∷ 32772 ∷ 70 ∷ 17 ∷ []
-unfolding auxiliariesOut listedOut opened outOf walk stepAt auxInside readBy numberAt numbersAt sectionOf must stored put
+unfolding auxiliariesOut listOut opened outOf entriesFrom onwardAtOf auxInside readBy numberAt numbersAt sectionOf must stored put
 versions-written = refl
 
 -- a next inside the record is followed, and an auxiliary offset of 0 is the record itself
 next-inside : needsOut false (replicate 12 0 ++ (4 ∷ replicate 7 0)) 0 20 9 (replicate 12 3) ≡ 0 ∷ 0 ∷ 0 ∷ 0 ∷ 0 ∷ 4 ∷ 4 ∷ 0 ∷ 0 ∷ 0 ∷ 4 ∷ 0 ∷ []
-unfolding needsOut listedOut opened outOf walk stepAt auxInside readBy numberAt numbersAt sectionOf must stored put
+unfolding needsOut listOut opened outOf entriesFrom onwardAtOf auxInside readBy numberAt numbersAt sectionOf must stored put
 next-inside = refl
 
-too-many-of-nothing : needsIn true [] 1 1 65536 [] ≡ Refused (refuse limit)
-unfolding needsIn listed opened must
+too-many-of-nothing : needsOf true [] 1 1 65536 [] ≡ Refused (refuseOf limit)
+unfolding needsOf listOf opened must
 too-many-of-nothing = refl

@@ -1,9 +1,9 @@
 // The versions that a file needs (SHT_GNU_verneed): the list of the files that it needs them of, and the list of one's auxiliaries,
 // which are the versions.
 ghost use mathlib.Core.Path.{_≡_};
-ghost use Rattle.verneed.specs.Verneed.{needsIn, needsOut, auxiliariesIn, auxiliariesOut};
-use version_record::Kind;
-use version_section::Counted;
+ghost use Rattle.verneed.specs.Verneed.{needsOf, needsOut, auxiliariesOf, auxiliariesOut};
+use version_record::VersionRecord;
+use version_section::CountEntries;
 
 // The numbers of a need's row, and where each stands in it.
 pub const NUMBERS: usize = 6;
@@ -43,10 +43,19 @@ pub fn needs(
     stated: usize,
     big: bool,
     out: &mut [u32],
-) -> Counted
-    ensures { λ r. ⌜ (r ≡ needsIn big (now (file .entry)) start len stated (now (out .entry))) × (now (out .exit) ≡ needsOut big (now (file .entry)) start len stated (now (out .entry))) ⌝ }
+) -> CountEntries
+    ensures { λ r. ⌜ (r ≡ needsOf big (now (file .entry)) start len stated (now (out .entry))) × (now (out .exit) ≡ needsOut big (now (file .entry)) start len stated (now (out .entry))) ⌝ }
 {
-    version_list::list(file, start, len, stated, 0, big, Kind::Verneed, out)
+    version_list::list(
+        file,
+        start,
+        len,
+        stated,
+        0,
+        big,
+        VersionRecord::Verneed,
+        out,
+    )
 }
 
 // The auxiliaries of a need of that section, by its row: its place, and how far from it and how many they are.
@@ -59,9 +68,18 @@ pub fn auxiliaries(
     cnt: u32,
     big: bool,
     out: &mut [u32],
-) -> Counted
-    ensures { λ r. ⌜ (r ≡ auxiliariesIn big (now (file .entry)) start len place aux cnt (now (out .entry))) × (now (out .exit) ≡ auxiliariesOut big (now (file .entry)) start len place aux cnt (now (out .entry))) ⌝ }
+) -> CountEntries
+    ensures { λ r. ⌜ (r ≡ auxiliariesOf big (now (file .entry)) start len place aux cnt (now (out .entry))) × (now (out .exit) ≡ auxiliariesOut big (now (file .entry)) start len place aux cnt (now (out .entry))) ⌝ }
 {
     let at = (place as usize) + (aux as usize);
-    version_list::list(file, start, len, cnt as usize, at, big, Kind::Vernaux, out)
+    version_list::list(
+        file,
+        start,
+        len,
+        cnt as usize,
+        at,
+        big,
+        VersionRecord::Vernaux,
+        out,
+    )
 }

@@ -11,41 +11,41 @@ use Rattle.answer.specs.declared.Refusal.{Refusal}
 use Rattle.fields.specs.Field.{stored}
 use Rattle.layout.specs.Layout.{numbersAt}
 use Rattle.version_section.specs.Section.{sectionOf, inFile}
-use Rattle.version_section.specs.declared.Counted.{Counted}
-use Rattle.version_section.specs.declared.Counted.the-variants.{Whole, Cut, Refused}
-use Rattle.version_record.specs.Record.{layout, stepAt}
-use Rattle.version_record.specs.declared.Kind.{Kind}
-use Rattle.version_record.specs.declared.Step.{Step}
-use Rattle.version_record.specs.declared.Step.the-variants.{Next, Last, Bad}
+use Rattle.version_section.specs.declared.CountEntries.{CountEntries}
+use Rattle.version_section.specs.declared.CountEntries.the-variants.{Whole, Cut, Refused}
+use Rattle.version_record.specs.Record.{layout, onwardAtOf}
+use Rattle.version_record.specs.declared.VersionRecord.{VersionRecord}
+use Rattle.version_record.specs.declared.Onward.{Onward}
+use Rattle.version_record.specs.declared.Onward.the-variants.{Next, Last, Bad}
 
 -- an entry: the record's place, counted from the section's start, then the numbers of its fields
-abbrev pub rowAt : Kind → Bool → List ℕ → ℕ → List ℕ
+abbrev pub rowAt : VersionRecord → Bool → List ℕ → ℕ → List ℕ
 rowAt k big s at = at ∷ numbersAt big (layout k) s at
 
 -- what walking along a list finds: its entries, and whether it ended with them or stopped at bad bytes
-pub record Walk : Type 0 where
+pub record Entries : Type 0 where
   pub rows : List (List ℕ)
   pub whole : Bool
 
-abbrev pub ended : Walk
+abbrev pub ended : Entries
 ended = record { rows = []; whole = true }
 
-abbrev pub stopped : Walk
+abbrev pub stopped : Entries
 stopped = record { rows = []; whole = false }
 
-abbrev pub entry : List ℕ → Walk → Walk
+abbrev pub entry : List ℕ → Entries → Entries
 entry row w = record { rows = row ∷ w .rows; whole = w .whole }
 
 -- by what stands at a place: an entry and what `on` finds from its next on; a last entry; or a stop
-abbrev pub follow : Step → List ℕ → (ℕ → Walk) → Walk
+abbrev pub follow : Onward → List ℕ → (ℕ → Entries) → Entries
 follow (Next n) row on = entry row (on n)
 follow Last row on = entry row ended
 follow Bad row on = stopped
 
 -- "a next of 0 ends the list, and so does the stated count": the list from `at` of a section's bytes, of at most `stated` entries
-unfoldable pub walk : Kind → Bool → List ℕ → ℕ → ℕ → Walk
-walk k big s zero at = ended
-walk k big s (suc stated) at = follow (stepAt k big s at) (rowAt k big s at) (λ n. walk k big s stated (at + n))
+unfoldable pub entriesFrom : VersionRecord → Bool → List ℕ → ℕ → ℕ → Entries
+entriesFrom k big s zero at = ended
+entriesFrom k big s (suc stated) at = follow (onwardAtOf k big s at) (rowAt k big s at) (λ n. entriesFrom k big s stated (at + n))
 
 -- rows one behind the other
 abbrev pub flat : List (List ℕ) → List ℕ
@@ -54,12 +54,12 @@ flat (r ∷ rs) = r ++ flat rs
 
 -- "where the Rust just stops at bad bytes, we list the same entries and report 1 beside them and their number"; "If those entries
 -- do not fit, the answer is 13"
-unfoldable pub countedOf : Walk → List ℕ → Counted
+unfoldable pub countedOf : Entries → List ℕ → CountEntries
 countedOf w o =
     must Refused (leb (length (flat (w .rows))) (length o)) room (pick (w .whole) (Whole (length (w .rows))) (Cut (length (w .rows))))
 
 -- "the rest of the caller's list stays as before"; "nothing is written" where they do not fit
-unfoldable pub outOf : Walk → List ℕ → List ℕ
+unfoldable pub outOf : Entries → List ℕ → List ℕ
 outOf w o = stored o 0 (flat (w .rows))
 
 -- "Version records per section: 65,535."
@@ -68,17 +68,17 @@ recordLimit = 65535
 
 -- The checks of a door, in their order: the length of the file (3); the stated count (3), before the bytes that it counts are
 -- looked at; the section (1). Then the list is walked.
-unfoldable pub opened : {A : Type 0} → (Refusal → A) → (Walk → A) → Kind → Bool → List ℕ → ℕ → ℕ → ℕ → ℕ → A
+unfoldable pub opened : {A : Type 0} → (Refusal → A) → (Entries → A) → VersionRecord → Bool → List ℕ → ℕ → ℕ → ℕ → ℕ → A
 opened refused found k big file start len stated at =
     inLimit refused file
     (must refused (leb stated recordLimit) limit
     (inFile refused file start len
-    (found (walk k big (sectionOf file start len) stated at))))
+    (found (entriesFrom k big (sectionOf file start len) stated at))))
 
 -- what a door answers
-unfoldable pub listed : Kind → Bool → List ℕ → ℕ → ℕ → ℕ → ℕ → List ℕ → Counted
-listed k big file start len stated at o = opened Refused (λ w. countedOf w o) k big file start len stated at
+unfoldable pub listOf : VersionRecord → Bool → List ℕ → ℕ → ℕ → ℕ → ℕ → List ℕ → CountEntries
+listOf k big file start len stated at o = opened Refused (λ w. countedOf w o) k big file start len stated at
 
 -- what the caller's list `o` is then
-unfoldable pub listedOut : Kind → Bool → List ℕ → ℕ → ℕ → ℕ → ℕ → List ℕ → List ℕ
-listedOut k big file start len stated at o = opened (λ refusal. o) (λ w. outOf w o) k big file start len stated at
+unfoldable pub listOut : VersionRecord → Bool → List ℕ → ℕ → ℕ → ℕ → ℕ → List ℕ → List ℕ
+listOut k big file start len stated at o = opened (λ refusal. o) (λ w. outOf w o) k big file start len stated at

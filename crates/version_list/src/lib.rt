@@ -6,13 +6,13 @@ ghost use lib.ListN.{length};
 ghost use Rattle.answer.specs.Test.{fileLimit};
 ghost use Rattle.fields.specs.Field.{put};
 ghost use Rattle.layout.specs.Layout.{size};
-ghost use Rattle.version_record.specs.Record.{layout, stepAt};
-ghost use Rattle.version_list.specs.List.{rowAt, walk, flat, countedOf, outOf, listed, listedOut};
+ghost use Rattle.version_record.specs.Record.{layout, onwardAtOf};
+ghost use Rattle.version_list.specs.List.{rowAt, entriesFrom, flat, countedOf, outOf, listOf, listOut};
 ghost use Rattle.version_list.specs.Place.{placeAfter};
 use answer::Refusal;
-use version_record::Kind;
-use version_record::Step;
-use version_section::Counted;
+use version_record::Onward;
+use version_record::VersionRecord;
+use version_section::CountEntries;
 
 // How many records a list may state.
 pub const RECORD_LIMIT: usize = 65535;
@@ -30,18 +30,18 @@ pub fn list(
     stated: usize,
     at: usize,
     big: bool,
-    kind: Kind,
+    kind: VersionRecord,
     out: &mut [u32],
-) -> Counted
-    ensures { λ r. ⌜ (r ≡ listed kind big (now (file .entry)) start len stated at (now (out .entry))) × (now (out .exit) ≡ listedOut kind big (now (file .entry)) start len stated at (now (out .entry))) ⌝ }
+) -> CountEntries
+    ensures { λ r. ⌜ (r ≡ listOf kind big (now (file .entry)) start len stated at (now (out .entry))) × (now (out .exit) ≡ listOut kind big (now (file .entry)) start len stated at (now (out .entry))) ⌝ }
 {
     if answer::FILE_LIMIT < file.len() {
-        return Counted::Refused(Refusal {
+        return CountEntries::Refused(Refusal {
             number: answer::LIMIT,
         });
     }
     if RECORD_LIMIT < stated {
-        return Counted::Refused(Refusal {
+        return CountEntries::Refused(Refusal {
             number: answer::LIMIT,
         });
     }
@@ -49,7 +49,7 @@ pub fn list(
         let end = start + len;
         return list_in(&file[start..end], stated, at, big, kind, out);
     }
-    Counted::Refused(Refusal {
+    CountEntries::Refused(Refusal {
         number: answer::SHORT,
     })
 }
@@ -59,47 +59,47 @@ fn list_in(
     stated: usize,
     at: usize,
     big: bool,
-    kind: Kind,
+    kind: VersionRecord,
     out: &mut [u32],
-) -> Counted
+) -> CountEntries
     requires { ⌜ (length (now section) ≤ fileLimit) × (stated ≤ 65535) ⌝ }
-    ensures { λ r. ⌜ (r ≡ countedOf (walk kind big (now (section .entry)) stated at) (now (out .entry))) × (now (out .exit) ≡ outOf (walk kind big (now (section .entry)) stated at) (now (out .entry))) ⌝ }
+    ensures { λ r. ⌜ (r ≡ countedOf (entriesFrom kind big (now (section .entry)) stated at) (now (out .entry))) × (now (out .exit) ≡ outOf (entriesFrom kind big (now (section .entry)) stated at) (now (out .entry))) ⌝ }
 {
     let found = measure(section, stated, at, big, kind);
     let entries = found.entries;
     let columns = version_record::fields_of(kind) + 1;
     if out.len() < entries * columns {
-        return Counted::Refused(Refusal {
+        return CountEntries::Refused(Refusal {
             number: answer::ROOM,
         });
     }
     fill(section, entries, at, big, kind, out);
     if found.whole {
-        return Counted::Whole(entries);
+        return CountEntries::Whole(entries);
     }
-    Counted::Cut(entries)
+    CountEntries::Cut(entries)
 }
 
 // How many records there are, and whether the list ends with them or stops at bytes that are none.
-fn measure(section: &[u8], stated: usize, at: usize, big: bool, kind: Kind) -> Extent
+fn measure(section: &[u8], stated: usize, at: usize, big: bool, kind: VersionRecord) -> Extent
     requires { ⌜ length (now section) ≤ fileLimit ⌝ }
-    ensures { λ r. ⌜ (r .entries ≡ length (walk kind big (now (section .entry)) stated at .rows)) × (r .whole ≡ walk kind big (now (section .entry)) stated at .whole) ⌝ }
+    ensures { λ r. ⌜ (r .entries ≡ length (entriesFrom kind big (now (section .entry)) stated at .rows)) × (r .whole ≡ entriesFrom kind big (now (section .entry)) stated at .whole) ⌝ }
 {
     let mut left = stated;
     let mut entries: usize = 0;
     let mut place = at;
     while 0 < left {
-        match version_record::step_at(section, place, big, kind) {
-            Step::Next(n) => {
+        match version_record::onward_at(section, place, big, kind) {
+            Onward::Next(n) => {
                 place += n as usize;
             }
-            Step::Last => {
+            Onward::Last => {
                 return Extent {
                     entries: entries + 1,
                     whole: true,
                 };
             }
-            Step::Bad => {
+            Onward::Bad => {
                 return Extent {
                     entries,
                     whole: false,
@@ -116,9 +116,9 @@ fn measure(section: &[u8], stated: usize, at: usize, big: bool, kind: Kind) -> E
 }
 
 // Writes the rows of a list that has as many records as it states.
-fn fill(section: &[u8], entries: usize, at: usize, big: bool, kind: Kind, out: &mut [u32])
-    requires { ⌜ (length (now section) ≤ fileLimit) × (length (walk kind big (now section) entries at .rows) ≡ entries) × (entries * suc (length (layout kind)) ≤ length (now out)) ⌝ }
-    ensures { λ r. ⌜ now (out .exit) ≡ put (now (out .entry)) 0 (flat (walk kind big (now (section .entry)) entries at .rows)) ⌝ }
+fn fill(section: &[u8], entries: usize, at: usize, big: bool, kind: VersionRecord, out: &mut [u32])
+    requires { ⌜ (length (now section) ≤ fileLimit) × (length (entriesFrom kind big (now section) entries at .rows) ≡ entries) × (entries * suc (length (layout kind)) ≤ length (now out)) ⌝ }
+    ensures { λ r. ⌜ now (out .exit) ≡ put (now (out .entry)) 0 (flat (entriesFrom kind big (now (section .entry)) entries at .rows)) ⌝ }
 {
     let columns = version_record::fields_of(kind) + 1;
     let mut left = entries;
@@ -132,7 +132,7 @@ fn fill(section: &[u8], entries: usize, at: usize, big: bool, kind: Kind, out: &
     }
 }
 
-fn put_row(section: &[u8], at: usize, big: bool, kind: Kind, out: &mut [u32], base: usize)
+fn put_row(section: &[u8], at: usize, big: bool, kind: VersionRecord, out: &mut [u32], base: usize)
     requires { ⌜ (length (now section) ≤ fileLimit) × (at + size (layout kind) ≤ length (now section)) × (base + suc (length (layout kind)) ≤ length (now out)) ⌝ }
     ensures { λ r. ⌜ now (out .exit) ≡ put (now (out .entry)) base (rowAt kind big (now (section .entry)) at) ⌝ }
 {
@@ -142,13 +142,13 @@ fn put_row(section: &[u8], at: usize, big: bool, kind: Kind, out: &mut [u32], ba
 }
 
 // Where the record after the one at `at` stands, or `at` where there is none.
-fn place_after(section: &[u8], at: usize, big: bool, kind: Kind) -> usize
+fn place_after(section: &[u8], at: usize, big: bool, kind: VersionRecord) -> usize
     requires { ⌜ length (now section) ≤ fileLimit ⌝ }
-    ensures { λ r. ⌜ r ≡ placeAfter at (stepAt kind big (now (section .entry)) at) ⌝ }
+    ensures { λ r. ⌜ r ≡ placeAfter at (onwardAtOf kind big (now (section .entry)) at) ⌝ }
 {
-    match version_record::step_at(section, at, big, kind) {
-        Step::Next(n) => at + (n as usize),
-        Step::Last => at,
-        Step::Bad => at,
+    match version_record::onward_at(section, at, big, kind) {
+        Onward::Next(n) => at + (n as usize),
+        Onward::Last => at,
+        Onward::Bad => at,
     }
 }

@@ -5,15 +5,15 @@ use mathlib.Core.List.{List, [], _∷_, _++_}
 use mathlib.Core.Bool.{true, false}
 use Prim.Native.Nat.{ℕ}
 use lib.ListN.{replicate}
-use Rattle.answer.specs.Answer.{refuse, short, room}
+use Rattle.answer.specs.Answer.{refuseOf, short, room}
 use Rattle.answer.specs.Test.{must}
 use Rattle.fields.specs.Number.{numberAt}
-use Rattle.fields.specs.Field.{put, stored, writtenIn}
-use Rattle.fields.specs.declared.Written.the-variants.{Refused}
+use Rattle.fields.specs.Field.{put, stored, writeOf as writtenIn}
+use Rattle.fields.specs.declared.WriteBytes.the-variants.{Refused}
 use Rattle.layout.specs.Layout.{size, readBy, numbersAt}
-use Rattle.version_record.specs.Record.{layout, auxInside, stepAt, writtenAt, outAt}
-use Rattle.version_record.specs.declared.Kind.the-variants.{Verdef, Verdaux, Verneed, Vernaux}
-use Rattle.version_record.specs.declared.Step.the-variants.{Next, Last, Bad}
+use Rattle.version_record.specs.Record.{layout, auxInside, onwardAtOf, writeOf, writeOut}
+use Rattle.version_record.specs.declared.VersionRecord.the-variants.{Verdef, Verdaux, Verneed, Vernaux}
+use Rattle.version_record.specs.declared.Onward.the-variants.{Next, Last, Bad}
 
 -- "Verdef 20 bytes, its auxiliary 8, verneed 16, its auxiliary 16."
 definition-size : size (layout Verdef) ≡ 20
@@ -32,55 +32,55 @@ need-aux-size = refl
 abbrev need : ℕ → ℕ → List ℕ
 need aux next = 1 ∷ 0 ∷ 1 ∷ 0 ∷ 9 ∷ 0 ∷ 0 ∷ 0 ∷ aux ∷ 0 ∷ 0 ∷ 0 ∷ next ∷ 0 ∷ 0 ∷ 0 ∷ []
 
-goes-on : stepAt Verneed false (need 15 5) 0 ≡ Next 5
-unfolding stepAt auxInside readBy numberAt
+goes-on : onwardAtOf Verneed false (need 15 5) 0 ≡ Next 5
+unfolding onwardAtOf auxInside readBy numberAt
 goes-on = refl
 
-ends : stepAt Verneed false (need 15 0) 0 ≡ Last
-unfolding stepAt auxInside readBy numberAt
+ends : onwardAtOf Verneed false (need 15 0) 0 ≡ Last
+unfolding onwardAtOf auxInside readBy numberAt
 ends = refl
 
 -- an auxiliary offset of 0 is the record itself
-aux-of-zero : stepAt Verneed false (need 0 0) 0 ≡ Last
-unfolding stepAt auxInside readBy numberAt
+aux-of-zero : onwardAtOf Verneed false (need 0 0) 0 ≡ Last
+unfolding onwardAtOf auxInside readBy numberAt
 aux-of-zero = refl
 
-aux-at-the-end : stepAt Verneed false (need 16 5) 0 ≡ Bad
-unfolding stepAt auxInside readBy numberAt
+aux-at-the-end : onwardAtOf Verneed false (need 16 5) 0 ≡ Bad
+unfolding onwardAtOf auxInside readBy numberAt
 aux-at-the-end = refl
 
 -- even where the record states no auxiliary: the number of them is not looked at
-aux-past-with-none : stepAt Verdef false (replicate 12 0 ++ (20 ∷ replicate 7 0)) 0 ≡ Bad
-unfolding stepAt auxInside readBy numberAt
+aux-past-with-none : onwardAtOf Verdef false (replicate 12 0 ++ (20 ∷ replicate 7 0)) 0 ≡ Bad
+unfolding onwardAtOf auxInside readBy numberAt
 aux-past-with-none = refl
 
 -- nor is the version field
-version-zero : stepAt Verdef false (replicate 20 0) 0 ≡ Last
-unfolding stepAt auxInside readBy numberAt
+version-zero : onwardAtOf Verdef false (replicate 20 0) 0 ≡ Last
+unfolding onwardAtOf auxInside readBy numberAt
 version-zero = refl
 
-one-byte-missing : stepAt Verdef false (replicate 19 0) 0 ≡ Bad
-unfolding stepAt auxInside readBy numberAt
+one-byte-missing : onwardAtOf Verdef false (replicate 19 0) 0 ≡ Bad
+unfolding onwardAtOf auxInside readBy numberAt
 one-byte-missing = refl
 
 -- the place may be any number
-far-past : stepAt Verdaux false (replicate 8 0) 18446744073709551615 ≡ Bad
-unfolding stepAt auxInside readBy numberAt
+far-past : onwardAtOf Verdaux false (replicate 8 0) 18446744073709551615 ≡ Bad
+unfolding onwardAtOf auxInside readBy numberAt
 far-past = refl
 
-other-order : stepAt Verdaux true (0 ∷ 0 ∷ 0 ∷ 9 ∷ 0 ∷ 0 ∷ 0 ∷ 8 ∷ []) 0 ≡ Next 8
-unfolding stepAt auxInside readBy numberAt
+other-order : onwardAtOf Verdaux true (0 ∷ 0 ∷ 0 ∷ 9 ∷ 0 ∷ 0 ∷ 0 ∷ 8 ∷ []) 0 ≡ Next 8
+unfolding onwardAtOf auxInside readBy numberAt
 other-order = refl
 
-numbers-of-a-need : outAt Verneed false (need 15 5) 0 (7 ∷ 7 ∷ 7 ∷ 7 ∷ 7 ∷ 7 ∷ 7 ∷ []) 1 ≡ 7 ∷ 1 ∷ 1 ∷ 9 ∷ 15 ∷ 5 ∷ 7 ∷ []
-unfolding outAt stored put numbersAt numberAt
+numbers-of-a-need : writeOut Verneed false (need 15 5) 0 (7 ∷ 7 ∷ 7 ∷ 7 ∷ 7 ∷ 7 ∷ 7 ∷ []) 1 ≡ 7 ∷ 1 ∷ 1 ∷ 9 ∷ 15 ∷ 5 ∷ 7 ∷ []
+unfolding writeOut stored put numbersAt numberAt
 numbers-of-a-need = refl
 
-no-room : writtenAt Verneed (need 15 5) 0 (7 ∷ 7 ∷ 7 ∷ 7 ∷ 7 ∷ []) 1 ≡ Refused (refuse room)
-unfolding writtenAt writtenIn must
+no-room : writeOf Verneed (need 15 5) 0 (7 ∷ 7 ∷ 7 ∷ 7 ∷ 7 ∷ []) 1 ≡ Refused (refuseOf room)
+unfolding writeOf writtenIn must
 no-room = refl
 
 -- 1 comes before 13
-no-record-and-no-room : writtenAt Verneed [] 0 [] 0 ≡ Refused (refuse short)
-unfolding writtenAt writtenIn must
+no-record-and-no-room : writeOf Verneed [] 0 [] 0 ≡ Refused (refuseOf short)
+unfolding writeOf writtenIn must
 no-record-and-no-room = refl

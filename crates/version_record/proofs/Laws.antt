@@ -12,22 +12,22 @@ use lib.Dec.{leb, ltb}
 use lib.ListN.{length, getD, take, set, length-take}
 use lib.Seq.{take-suc, take-all}
 use borrow.Author.Tests.{leb-true, leb-false, lt-ltb, le-ltb, eq-eqb, ne-eqb}
-use Rattle.answer.specs.Answer.{refuse, short, room}
+use Rattle.answer.specs.Answer.{refuseOf, short, room}
 use Rattle.answer.specs.Test.{pick}
 use Rattle.answer.specs.declared.Refusal.{Refusal}
 use Rattle.answer.proofs.Laws.{must-on, must-off}
 use Rattle.fields.specs.Number.{numberAt}
 use Rattle.fields.specs.Field.{put}
-use Rattle.fields.specs.declared.Written.the-variants.{Done, Refused}
+use Rattle.fields.specs.declared.WriteBytes.the-variants.{Done, Refused}
 use Rattle.fields.proofs.Laws.{le-or-lt, put-sets, put-both, store-done, store-refused}
 use Rattle.layout.specs.Layout.{size, readBy, numbersAt}
 use Rattle.layout.proofs.Laws.{read-full}
 use Rattle.layout.proofs.Theorems.{Reads, whole, cut, reads, length-numbers}
-use Rattle.version_record.specs.Record.{layout, next, auxInside, onward, stepAt, wholeAt, writtenAt, outAt}
-use Rattle.version_record.specs.declared.Kind.{Kind}
-use Rattle.version_record.specs.declared.Kind.the-variants.{Verdef, Verdaux, Verneed, Vernaux}
-use Rattle.version_record.specs.declared.Step.{Step}
-use Rattle.version_record.specs.declared.Step.the-variants.{Next, Last, Bad}
+use Rattle.version_record.specs.Record.{layout, next, auxInside, onwardBy, onwardAtOf, wholeAt, writeOf, writeOut}
+use Rattle.version_record.specs.declared.VersionRecord.{VersionRecord}
+use Rattle.version_record.specs.declared.VersionRecord.the-variants.{Verdef, Verdaux, Verneed, Vernaux}
+use Rattle.version_record.specs.declared.Onward.{Onward}
+use Rattle.version_record.specs.declared.Onward.the-variants.{Next, Last, Bad}
 
 -- A layout, field by field.
 pub size-suc : (ws : List ℕ) (i : ℕ) → i < length ws → size (take (suc i) ws) ≡ size (take i ws) + getD ws i 0
@@ -64,24 +64,24 @@ narrow-at [] i n h = absurd (not-suc-le-zero h)
 narrow-at (w ∷ ws) zero n h = n .0
 narrow-at (w ∷ ws) (suc i) n h = narrow-at ws i (n .1) (le-of-suc-le-suc h)
 
-narrow : (k : Kind) → Narrow (layout k)
+narrow : (k : VersionRecord) → Narrow (layout k)
 narrow Verdef = (inl refl, (inl refl, (inl refl, (inl refl, (inr refl, (inr refl, (inr refl, tt)))))))
 narrow Verdaux = (inr refl, (inr refl, tt))
 narrow Verneed = (inl refl, (inl refl, (inr refl, (inr refl, (inr refl, tt)))))
 narrow Vernaux = (inr refl, (inl refl, (inl refl, (inr refl, (inr refl, tt)))))
 
-pub two-or-four : (k : Kind) (i : ℕ) → i < length (layout k) → (getD (layout k) i 0 ≡ 2) ⊎ (getD (layout k) i 0 ≡ 4)
+pub two-or-four : (k : VersionRecord) (i : ℕ) → i < length (layout k) → (getD (layout k) i 0 ≡ 2) ⊎ (getD (layout k) i 0 ≡ 4)
 two-or-four k i h = narrow-at (layout k) i (narrow k) h
 
 -- each kind's record has a field of four bytes at its end, and at least two fields
-pub sized : (k : Kind) → (8 ≤ size (layout k)) × (size (layout k) ≤ 20) × (2 ≤ length (layout k)) × (length (layout k) ≤ 7)
+pub sized : (k : VersionRecord) → (8 ≤ size (layout k)) × (size (layout k) ≤ 20) × (2 ≤ length (layout k)) × (length (layout k) ≤ 7)
 sized Verdef = (omega arith, omega arith, omega arith, omega arith)
 sized Verdaux = (omega arith, omega arith, omega arith, omega arith)
 sized Verneed = (omega arith, omega arith, omega arith, omega arith)
 sized Vernaux = (omega arith, omega arith, omega arith, omega arith)
 
 -- the offset of the next record is the last field of each
-pub next-is : (k : Kind) (big : Bool) (s : List ℕ) (at : ℕ) → next k (numbersAt big (layout k) s at) ≡ numberAt big 4 s (at + (size (layout k) - 4))
+pub next-is : (k : VersionRecord) (big : Bool) (s : List ℕ) (at : ℕ) → next k (numbersAt big (layout k) s at) ≡ numberAt big 4 s (at + (size (layout k) - 4))
 next-is Verdef big s at = number-at big (layout Verdef) s at 6 (omega arith)
 next-is Verdaux big s at = number-at big (layout Verdaux) s at 1 (omega arith)
 next-is Verneed big s at = number-at big (layout Verneed) s at 4 (omega arith)
@@ -108,7 +108,7 @@ shifted n at len h =
     (le-or-lt len (at + n))
 
 -- the test that a record is whole, as the code makes it
-module _ (k : Kind) (s : List ℕ) (at n : ℕ) (e : n ≡ size (layout k)) where
+module _ (k : VersionRecord) (s : List ℕ) (at n : ℕ) (e : n ≡ size (layout k)) where
   pub whole-is : leb (at + n) (length s) ≡ true → at + size (layout k) ≤ length s
   whole-is t = rw e at (leb-true (at + n) (length s) t)
 
@@ -116,31 +116,31 @@ module _ (k : Kind) (s : List ℕ) (at n : ℕ) (e : n ≡ size (layout k)) wher
   missing-is t = rw e at (leb-false (at + n) (length s) t)
 
 -- What stands at a place: a law for each way that it comes about.
-module _ (k : Kind) (big : Bool) (s : List ℕ) (at : ℕ) where
-  pub step-missing : length s < at + size (layout k) → Bad ≡ stepAt k big s at
-  unfolding stepAt
+module _ (k : VersionRecord) (big : Bool) (s : List ℕ) (at : ℕ) where
+  pub step-missing : length s < at + size (layout k) → Bad ≡ onwardAtOf k big s at
+  unfolding onwardAtOf
   step-missing h = read-missing _ Bad big (layout k) s at (omega (arith, sized k)) h (reads _ _ big (layout k) s at)
 
   -- a record that stands there is whole
-  pub step-there : (Bad ≡ stepAt k big s at → ⊥) → at + size (layout k) ≤ length s
+  pub step-there : (Bad ≡ onwardAtOf k big s at → ⊥) → at + size (layout k) ≤ length s
   step-there n = ⊎-elim (λ h. h) (λ h. absurd (n (step-missing h))) (le-or-lt (at + size (layout k)) (length s))
 
   module _ (h : at + size (layout k) ≤ length s) where
-    pub judged : {x : Step} → x ≡ pick (auxInside k (length s) at (numbersAt big (layout k) s at)) (onward (next k (numbersAt big (layout k) s at))) Bad → x ≡ stepAt k big s at
-    unfolding stepAt
+    pub judged : {x : Onward} → x ≡ pick (auxInside k (length s) at (numbersAt big (layout k) s at)) (onwardBy (next k (numbersAt big (layout k) s at))) Bad → x ≡ onwardAtOf k big s at
+    unfolding onwardAtOf
     judged e = e ∙ read-full big s _ _ (layout k) at h
 
-    pub step-past : {r : Bool} → r ≡ auxInside k (length s) at (numbersAt big (layout k) s at) → r ≡ false → Bad ≡ stepAt k big s at
+    pub step-past : {r : Bool} → r ≡ auxInside k (length s) at (numbersAt big (layout k) s at) → r ≡ false → Bad ≡ onwardAtOf k big s at
     step-past a t = judged (rw (← a, t))
 
-    pub step-last : {r : Bool} {n : ℕ} → r ≡ auxInside k (length s) at (numbersAt big (layout k) s at) → r ≡ true → n ≡ numberAt big 4 s (at + (size (layout k) - 4)) → n ≡ 0 → Last ≡ stepAt k big s at
+    pub step-last : {r : Bool} {n : ℕ} → r ≡ auxInside k (length s) at (numbersAt big (layout k) s at) → r ≡ true → n ≡ numberAt big 4 s (at + (size (layout k) - 4)) → n ≡ 0 → Last ≡ onwardAtOf k big s at
     step-last {r} {n} a t e z = judged (rw (← a, t, next-is k big s at, ← e, eq-eqb n 0 z))
 
-    pub step-next : {r : Bool} {n : ℕ} → r ≡ auxInside k (length s) at (numbersAt big (layout k) s at) → r ≡ true → n ≡ numberAt big 4 s (at + (size (layout k) - 4)) → (n ≡ 0 → ⊥) → Next n ≡ stepAt k big s at
+    pub step-next : {r : Bool} {n : ℕ} → r ≡ auxInside k (length s) at (numbersAt big (layout k) s at) → r ≡ true → n ≡ numberAt big 4 s (at + (size (layout k) - 4)) → (n ≡ 0 → ⊥) → Next n ≡ onwardAtOf k big s at
     step-next {r} {n} a t e z = judged (rw (← a, t, next-is k big s at, ← e, ne-eqb n 0 z))
 
 -- the first auxiliary of a record that stands there is in the section
-module _ (k : Kind) (big : Bool) (s : List ℕ) (at : ℕ) (n : Bad ≡ stepAt k big s at → ⊥) where
+module _ (k : VersionRecord) (big : Bool) (s : List ℕ) (at : ℕ) (n : Bad ≡ onwardAtOf k big s at → ⊥) where
   by-aux : (b : Bool) → b ≡ auxInside k (length s) at (numbersAt big (layout k) s at) → auxInside k (length s) at (numbersAt big (layout k) s at) ≡ true
   by-aux true e = sym e
   by-aux false e = absurd (n (step-past k big s at (step-there k big s at n) e refl))
@@ -162,22 +162,22 @@ put-next o l ns base i x e q h r f =
     ∙ rw (e, f, add-one i, take-suc ns i 0 h) (put-both o base (base + i) (take i ns) (getD ns i 0 ∷ []) (omega arith) (omega arith))
 
 -- Writing a record's numbers: a law for each way that it comes about.
-module _ (k : Kind) (big : Bool) (s : List ℕ) (at : ℕ) (o : List ℕ) (base : ℕ) where
-  pub write-short : {q : Refusal} → wholeAt k s at ≡ false → q ≡ refuse short → (Refused q ≡ writtenAt k s at o base) × (o ≡ outAt k big s at o base)
-  unfolding writtenAt outAt
+module _ (k : VersionRecord) (big : Bool) (s : List ℕ) (at : ℕ) (o : List ℕ) (base : ℕ) where
+  pub write-short : {q : Refusal} → wholeAt k s at ≡ false → q ≡ refuseOf short → (Refused q ≡ writeOf k s at o base) × (o ≡ writeOut k big s at o base)
+  unfolding writeOf writeOut
   write-short w e = (must-off _ _ _ _ w e, rw w)
 
   numbers-length : length (numbersAt big (layout k) s at) ≡ length (layout k)
   numbers-length = length-numbers big (layout k) s at
 
-  pub write-full : {q : Refusal} → wholeAt k s at ≡ true → length o < base + length (layout k) → q ≡ refuse room → (Refused q ≡ writtenAt k s at o base) × (o ≡ outAt k big s at o base)
-  unfolding writtenAt outAt
+  pub write-full : {q : Refusal} → wholeAt k s at ≡ true → length o < base + length (layout k) → q ≡ refuseOf room → (Refused q ≡ writeOf k s at o base) × (o ≡ writeOut k big s at o base)
+  unfolding writeOf writeOut
   write-full w h e =
       let p = store-refused (length (layout k)) o base (numbersAt big (layout k) s at) numbers-length h e in
       (must-on _ _ _ _ w (p .0), rw w (p .1))
 
-  pub write-done : (n : ℕ) {l : List ℕ} → wholeAt k s at ≡ true → base + length (layout k) ≤ length o → length (layout k) ≤ n → l ≡ put o base (take n (numbersAt big (layout k) s at)) → (Done ≡ writtenAt k s at o base) × (l ≡ outAt k big s at o base)
-  unfolding writtenAt outAt
+  pub write-done : (n : ℕ) {l : List ℕ} → wholeAt k s at ≡ true → base + length (layout k) ≤ length o → length (layout k) ≤ n → l ≡ put o base (take n (numbersAt big (layout k) s at)) → (Done ≡ writeOf k s at o base) × (l ≡ writeOut k big s at o base)
+  unfolding writeOf writeOut
   write-done n {l} w h m e =
       let t : take n (numbersAt big (layout k) s at) ≡ numbersAt big (layout k) s at = take-all n (numbersAt big (layout k) s at) (omega (arith, numbers-length)) in
       let p = store-done (length (layout k)) o base (numbersAt big (layout k) s at) numbers-length h (e ∙ rw t) in

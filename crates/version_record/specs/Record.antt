@@ -10,17 +10,17 @@ use lib.ListN.{length, getD}
 use lib.Dec.{leb, ltb, eqb}
 use Rattle.answer.specs.Answer.{short}
 use Rattle.answer.specs.Test.{pick, must}
-use Rattle.fields.specs.Field.{stored, writtenIn}
-use Rattle.fields.specs.declared.Written.{Written}
-use Rattle.fields.specs.declared.Written.the-variants.{Refused}
+use Rattle.fields.specs.Field.{stored, writeOf as writtenIn}
+use Rattle.fields.specs.declared.WriteBytes.{WriteBytes}
+use Rattle.fields.specs.declared.WriteBytes.the-variants.{Refused}
 use Rattle.layout.specs.Layout.{Field, field, widths, place, size, readBy, numbersAt}
-use Rattle.version_record.specs.declared.Kind.{Kind}
-use Rattle.version_record.specs.declared.Kind.the-variants.{Verdef, Verdaux, Verneed, Vernaux}
-use Rattle.version_record.specs.declared.Step.{Step}
-use Rattle.version_record.specs.declared.Step.the-variants.{Next, Last, Bad}
+use Rattle.version_record.specs.declared.VersionRecord.{VersionRecord}
+use Rattle.version_record.specs.declared.VersionRecord.the-variants.{Verdef, Verdaux, Verneed, Vernaux}
+use Rattle.version_record.specs.declared.Onward.{Onward}
+use Rattle.version_record.specs.declared.Onward.the-variants.{Next, Last, Bad}
 
 -- offset, width, name
-abbrev pub fields : Kind → List Field
+abbrev pub fields : VersionRecord → List Field
 -- Elfxx_Verdef, a version definition
 fields Verdef =
     field 0 2 "vd_version"
@@ -50,15 +50,19 @@ fields Vernaux =
     ∷ field 12 4 "vna_next"
     ∷ []
 
-abbrev pub layout : Kind → List ℕ
+abbrev pub layout : VersionRecord → List ℕ
 layout k = widths (fields k)
 
+-- how many fields a record has
+abbrev pub fieldsOf : VersionRecord → ℕ
+fieldsOf k = length (layout k)
+
 -- the number of a field, by its name
-abbrev pub the : Kind → String → List ℕ → ℕ
+abbrev pub the : VersionRecord → String → List ℕ → ℕ
 the k x ns = getD ns (place x (fields k)) 0
 
 -- how far from its start the next record stands
-abbrev pub next : Kind → List ℕ → ℕ
+abbrev pub next : VersionRecord → List ℕ → ℕ
 next Verdef ns = the Verdef "vd_next" ns
 next Verdaux ns = the Verdaux "vda_next" ns
 next Verneed ns = the Verneed "vn_next" ns
@@ -66,28 +70,28 @@ next Vernaux ns = the Vernaux "vna_next" ns
 
 -- "'Next' and auxiliary offsets are from the current record": whether the first auxiliary of the record at `at` stands before the
 -- end of a section of `len` bytes. The version field is not looked at, nor is the number of auxiliaries. An auxiliary has none itself.
-unfoldable pub auxInside : Kind → ℕ → ℕ → List ℕ → Bool
+unfoldable pub auxInside : VersionRecord → ℕ → ℕ → List ℕ → Bool
 auxInside Verdef len at ns = ltb (at + the Verdef "vd_aux" ns) len
 auxInside Verdaux len at ns = true
 auxInside Verneed len at ns = ltb (at + the Verneed "vn_aux" ns) len
 auxInside Vernaux len at ns = true
 
 -- "a next of 0 ends the list"
-abbrev pub onward : ℕ → Step
-onward n = pick (eqb n 0) Last (Next n)
+abbrev pub onwardBy : ℕ → Onward
+onwardBy n = pick (eqb n 0) Last (Next n)
 
 -- what stands at `at` of a section's bytes
-unfoldable pub stepAt : Kind → Bool → List ℕ → ℕ → Step
-stepAt k big s at = readBy (λ ns. pick (auxInside k (length s) at ns) (onward (next k ns)) Bad) (λ end. Bad) big (layout k) s at
+unfoldable pub onwardAtOf : VersionRecord → Bool → List ℕ → ℕ → Onward
+onwardAtOf k big s at = readBy (λ ns. pick (auxInside k (length s) at ns) (onwardBy (next k ns)) Bad) (λ end. Bad) big (layout k) s at
 
 -- the record at `at` is whole
-abbrev pub wholeAt : Kind → List ℕ → ℕ → Bool
+abbrev pub wholeAt : VersionRecord → List ℕ → ℕ → Bool
 wholeAt k s at = leb (at + size (layout k)) (length s)
 
 -- writing its numbers into a list `o` from `base`: 1 where it is not whole, then 13 where there is no room
-unfoldable pub writtenAt : Kind → List ℕ → ℕ → List ℕ → ℕ → Written
-writtenAt k s at o base = must Refused (wholeAt k s at) short (writtenIn (length (layout k)) o base)
+unfoldable pub writeOf : VersionRecord → List ℕ → ℕ → List ℕ → ℕ → WriteBytes
+writeOf k s at o base = must Refused (wholeAt k s at) short (writtenIn (length (layout k)) o base)
 
 -- what the list is then
-unfoldable pub outAt : Kind → Bool → List ℕ → ℕ → List ℕ → ℕ → List ℕ
-outAt k big s at o base = pick (wholeAt k s at) (stored o base (numbersAt big (layout k) s at)) o
+unfoldable pub writeOut : VersionRecord → Bool → List ℕ → ℕ → List ℕ → ℕ → List ℕ
+writeOut k big s at o base = pick (wholeAt k s at) (stored o base (numbersAt big (layout k) s at)) o

@@ -6,14 +6,14 @@ ghost use lib.ListN.{length, getD};
 ghost use Rattle.fields.specs.Number.{numberAt};
 ghost use lib.Dec.{ltb};
 ghost use Rattle.layout.specs.Layout.{size, numbersAt};
-ghost use Rattle.version_record.specs.Record.{layout, auxInside, stepAt, writtenAt, outAt};
+ghost use Rattle.version_record.specs.Record.{layout, fieldsOf, auxInside, onwardAtOf, writeOf, writeOut};
 use answer::Refusal;
 use cursor::Cursor;
-use cursor::NextHalf;
-use cursor::NextWord;
-use fields::Written;
+use cursor::NextU16;
+use cursor::NextU32;
+use fields::WriteBytes;
 
-pub enum Kind {
+pub enum VersionRecord {
     Verdef,
     Verdaux,
     Verneed,
@@ -21,7 +21,7 @@ pub enum Kind {
 }
 
 // What stands at a place of a list.
-pub enum Step {
+pub enum Onward {
     // A record, and how far from its start the next one stands.
     Next(u32),
     // A record that has no next.
@@ -40,19 +40,19 @@ const VERNEED: [usize; 5] = [2, 2, 4, 4, 4];
 const VERNAUX: [usize; 5] = [4, 2, 2, 4, 4];
 
 // How many fields a record has.
-pub fn fields_of(kind: Kind) -> usize
-    ensures { λ r. ⌜ r ≡ length (layout kind) ⌝ }
+pub fn fields_of(kind: VersionRecord) -> usize
+    ensures { λ r. ⌜ r ≡ fieldsOf kind ⌝ }
 {
     match kind {
-        Kind::Verdef => 7,
-        Kind::Verdaux => 2,
-        Kind::Verneed => 5,
-        Kind::Vernaux => 5,
+        VersionRecord::Verdef => 7,
+        VersionRecord::Verdaux => 2,
+        VersionRecord::Verneed => 5,
+        VersionRecord::Vernaux => 5,
     }
 }
 
-pub fn step_at(section: &[u8], at: usize, big: bool, kind: Kind) -> Step
-    ensures { λ r. ⌜ r ≡ stepAt kind big (now (section .entry)) at ⌝ }
+pub fn onward_at(section: &[u8], at: usize, big: bool, kind: VersionRecord) -> Onward
+    ensures { λ r. ⌜ r ≡ onwardAtOf kind big (now (section .entry)) at ⌝ }
 {
     let size = size_of(kind);
     if fields::fits(section.len(), at, size) {
@@ -60,13 +60,13 @@ pub fn step_at(section: &[u8], at: usize, big: bool, kind: Kind) -> Step
             // The offset of the next record is the last field of each.
             let next = number(section, at + (size - 4), 4, big);
             if next == 0 {
-                return Step::Last;
+                return Onward::Last;
             }
-            return Step::Next(next);
+            return Onward::Next(next);
         }
-        return Step::Bad;
+        return Onward::Bad;
     }
-    Step::Bad
+    Onward::Bad
 }
 
 // Writes the numbers of the record at `at` into `out` from `base`.
@@ -74,11 +74,11 @@ pub fn write(
     section: &[u8],
     at: usize,
     big: bool,
-    kind: Kind,
+    kind: VersionRecord,
     out: &mut [u32],
     base: usize,
-) -> Written
-    ensures { λ r. ⌜ (r ≡ writtenAt kind (now (section .entry)) at (now (out .entry)) base) × (now (out .exit) ≡ outAt kind big (now (section .entry)) at (now (out .entry)) base) ⌝ }
+) -> WriteBytes
+    ensures { λ r. ⌜ (r ≡ writeOf kind (now (section .entry)) at (now (out .entry)) base) × (now (out .exit) ≡ writeOut kind big (now (section .entry)) at (now (out .entry)) base) ⌝ }
 {
     let size = size_of(kind);
     let n = fields_of(kind);
@@ -92,50 +92,50 @@ pub fn write(
                 next += w;
                 i += 1;
             }
-            return Written::Done;
+            return WriteBytes::Done;
         }
-        return Written::Refused(Refusal {
+        return WriteBytes::Refused(Refusal {
             number: answer::ROOM,
         });
     }
-    Written::Refused(Refusal {
+    WriteBytes::Refused(Refusal {
         number: answer::SHORT,
     })
 }
 
-fn size_of(kind: Kind) -> usize
+fn size_of(kind: VersionRecord) -> usize
     ensures { λ r. ⌜ r ≡ size (layout kind) ⌝ }
 {
     match kind {
-        Kind::Verdef => 20,
-        Kind::Verdaux => 8,
-        Kind::Verneed => 16,
-        Kind::Vernaux => 16,
+        VersionRecord::Verdef => 20,
+        VersionRecord::Verdaux => 8,
+        VersionRecord::Verneed => 16,
+        VersionRecord::Vernaux => 16,
     }
 }
 
-fn width(kind: Kind, i: usize) -> usize
+fn width(kind: VersionRecord, i: usize) -> usize
     requires { ⌜ i < length (layout kind) ⌝ }
     ensures { λ r. ⌜ r ≡ getD (layout kind) i 0 ⌝ }
 {
     match kind {
-        Kind::Verdef => VERDEF[i],
-        Kind::Verdaux => VERDAUX[i],
-        Kind::Verneed => VERNEED[i],
-        Kind::Vernaux => VERNAUX[i],
+        VersionRecord::Verdef => VERDEF[i],
+        VersionRecord::Verdaux => VERDAUX[i],
+        VersionRecord::Verneed => VERNEED[i],
+        VersionRecord::Vernaux => VERNAUX[i],
     }
 }
 
 // Whether the first auxiliary of the record at `at`, if it is of a kind that has some, stands before the section's end.
-fn aux_inside(section: &[u8], at: usize, big: bool, kind: Kind) -> bool
+fn aux_inside(section: &[u8], at: usize, big: bool, kind: VersionRecord) -> bool
     requires { ⌜ at + size (layout kind) ≤ length (now section) ⌝ }
     ensures { λ r. ⌜ r ≡ auxInside kind (length (now (section .entry))) at (numbersAt big (layout kind) (now (section .entry)) at) ⌝ }
 {
     match kind {
-        Kind::Verdef => inside(section, at, at + 12, big),
-        Kind::Verdaux => true,
-        Kind::Verneed => inside(section, at, at + 8, big),
-        Kind::Vernaux => true,
+        VersionRecord::Verdef => inside(section, at, at + 12, big),
+        VersionRecord::Verdaux => true,
+        VersionRecord::Verneed => inside(section, at, at + 8, big),
+        VersionRecord::Vernaux => true,
     }
 }
 
@@ -153,13 +153,13 @@ fn number(section: &[u8], at: usize, w: usize, big: bool) -> u32
     ensures { λ r. ⌜ r ≡ numberAt big w (now (section .entry)) at ⌝ }
 {
     if w == 2 {
-        return match Cursor::new(at).u16(section, big) {
-            NextHalf::Value(t) => t.value as u32,
-            NextHalf::Refused(_) => 0,
+        return match Cursor::new(at).next_u16(section, big) {
+            NextU16::Value(t) => t.value as u32,
+            NextU16::Refused(_) => 0,
         };
     }
-    match Cursor::new(at).u32(section, big) {
-        NextWord::Value(t) => t.value,
-        NextWord::Refused(_) => 0,
+    match Cursor::new(at).next_u32(section, big) {
+        NextU32::Value(t) => t.value,
+        NextU32::Refused(_) => 0,
     }
 }

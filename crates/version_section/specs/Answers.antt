@@ -3,17 +3,17 @@
 use Prim.Native.Nat.{ℕ}
 use mathlib.Core.List.{[], _∷_}
 use Rattle.answer.specs.Answer.{Answer, accepted, refused, number, short}
-use Rattle.version_section.specs.declared.Counted.{Counted}
-use Rattle.version_section.specs.declared.Counted.the-variants.{Whole, Cut, Refused}
+use Rattle.version_section.specs.declared.CountEntries.{CountEntries}
+use Rattle.version_section.specs.declared.CountEntries.the-variants.{Whole, Cut, Refused}
 
-abbrev pub answerCounted : Counted → Answer
-answerCounted (Whole n) = accepted (n ∷ [])
-answerCounted (Cut n) = accepted (n ∷ [])
-answerCounted (Refused k) = refused k
+abbrev pub answerCountEntries : CountEntries → Answer
+answerCountEntries (Whole n) = accepted (n ∷ [])
+answerCountEntries (Cut n) = accepted (n ∷ [])
+answerCountEntries (Refused k) = refused k
 
 -- Document 01's number of it: "where the Rust just stops at bad bytes, we list the same entries and report 1 beside them and
 -- their number .. This one answer is not a refusal."
-abbrev pub numberCounted : Counted → ℕ
-numberCounted (Whole n) = 0
-numberCounted (Cut n) = short
-numberCounted (Refused k) = k .number
+abbrev pub numberCountEntries : CountEntries → ℕ
+numberCountEntries (Whole n) = 0
+numberCountEntries (Cut n) = short
+numberCountEntries (Refused k) = k .number

@@ -2,7 +2,7 @@
 use answer::Refusal;
 
 // How many entries a section or a list has.
-pub enum Counted {
+pub enum CountEntries {
     // All of it is entries.
     Whole(usize),
     // The entries before bytes that are none: answer 1 stands beside their number, and it is not a refusal.

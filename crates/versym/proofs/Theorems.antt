@@ -10,7 +10,7 @@ use native.Mathlib.Omega.{arith}
 use lib.Dec.{T, ltb}
 use lib.ListN.{length, take, drop}
 use borrow.Author.Tests.{le-leb, lt-leb, lt-ltb, le-ltb, eq-eqb, ne-eqb}
-use Rattle.answer.specs.Answer.{refuse, limit, short, notFound}
+use Rattle.answer.specs.Answer.{refuseOf, limit, short, notFound}
 use Rattle.answer.specs.Test.{pick, must, fileLimit}
 use Rattle.answer.proofs.Laws.{must-on, must-off}
 use Rattle.answer.proofs.Unique.{same}
@@ -18,12 +18,12 @@ use Rattle.fields.specs.Number.{flip, numberAt}
 use Rattle.fields.proofs.Laws.{le-or-lt}
 use Rattle.layout.specs.Layout.{placed, numbersAt}
 use Rattle.layout.proofs.Laws.{full-is}
-use Rattle.version_section.specs.declared.Counted.{Counted}
-use Rattle.version_section.specs.declared.Counted.the-variants as counted
+use Rattle.version_section.specs.declared.CountEntries.{CountEntries}
+use Rattle.version_section.specs.declared.CountEntries.the-variants as counted
 use Rattle.version_section.proofs.Order.{read-mirrored}
-use Rattle.versym.specs.Versym.{fields, entry, versymOf, entriesIn, countedIn, symbolAt, countOf, symbolOf}
-use Rattle.versym.specs.declared.Symbol.{Symbol}
-use Rattle.versym.specs.declared.Symbol.the-variants.{At, Refused}
+use Rattle.versym.specs.Versym.{fields, entry, versymOf, entriesIn, countInOf, getAtInOf, countOf, getAtOf}
+use Rattle.versym.specs.declared.ReadVersym.{ReadVersym}
+use Rattle.versym.specs.declared.ReadVersym.the-variants.{Value, Refused}
 
 -- Each field of the table stands where the one before it ends.
 pub fields-placed : T (placed 0 fields)
@@ -42,15 +42,15 @@ pub version-small : (n : ℕ) → versymOf n .version < 32768
 version-small n = omega arith
 
 -- Each entry below their number lies in the section, and is there.
-pub entry-there : (big : Bool) (s : List ℕ) (index : ℕ) → index < entriesIn s → (2 * index + 2 ≤ length s) × (At (versymOf (numberAt big 2 s (2 * index))) ≡ symbolAt big s index)
-unfolding symbolAt numbersAt
+pub entry-there : (big : Bool) (s : List ℕ) (index : ℕ) → index < entriesIn s → (2 * index + 2 ≤ length s) × (Value (versymOf (numberAt big 2 s (2 * index))) ≡ getAtInOf big s index)
+unfolding getAtInOf numbersAt
 entry-there big s index h =
     let i : 2 * index + 2 ≤ length s = omega arith in
     (i, must-on _ _ _ _ (lt-ltb index (entriesIn s) h) (full-is big s _ _ entry (2 * index) i refl))
 
 -- At or past their number is 10.
-pub entry-past : (big : Bool) (s : List ℕ) (index : ℕ) → entriesIn s ≤ index → Refused (refuse notFound) ≡ symbolAt big s index
-unfolding symbolAt
+pub entry-past : (big : Bool) (s : List ℕ) (index : ℕ) → entriesIn s ≤ index → Refused (refuseOf notFound) ≡ getAtInOf big s index
+unfolding getAtInOf
 entry-past big s index h = must-off _ _ _ _ (le-ltb index (entriesIn s) h) refl
 
 -- the bytes of each entry reversed; an odd last byte stays
@@ -71,31 +71,31 @@ swapped-at (a ∷ b ∷ s) zero h = refl
 swapped-at (a ∷ b ∷ s) (suc i) h = let e : 2 * suc i ≡ suc (suc (2 * i)) = omega arith in rw e (swapped-at s i (omega arith))
 
 -- An entry in one order is that of the byte-swapped section in the other.
-pub entry-swapped : (big : Bool) (s : List ℕ) (index : ℕ) → symbolAt (not big) (swapped s) index ≡ symbolAt big s index
-unfolding symbolAt
+pub entry-swapped : (big : Bool) (s : List ℕ) (index : ℕ) → getAtInOf (not big) (swapped s) index ≡ getAtInOf big s index
+unfolding getAtInOf
 entry-swapped big s index =
     rw (swapped-length s)
-    (ap (λ (x : Symbol). must Refused (ltb index (length s / 2)) notFound x) (read-mirrored _ _ big entry s (swapped s) (2 * index) (swapped-length s) (omega arith) (λ h. (swapped-at s index h, tt))))
+    (ap (λ (x : ReadVersym). must Refused (ltb index (length s / 2)) notFound x) (read-mirrored _ _ big entry s (swapped s) (2 * index) (swapped-length s) (omega arith) (λ h. (swapped-at s index h, tt))))
 
 -- A file that is too long is 3, whatever the section.
-pub count-long : (file : List ℕ) (start size : ℕ) → fileLimit < length file → counted.Refused (refuse limit) ≡ countOf file start size
+pub count-long : (file : List ℕ) (start size : ℕ) → fileLimit < length file → counted.Refused (refuseOf limit) ≡ countOf file start size
 unfolding countOf
 count-long file start size h = must-off _ _ _ _ (lt-leb (length file) fileLimit h) refl
 
 -- A section that reaches past the file is 1, as a refusal.
-pub count-past : (file : List ℕ) (start size : ℕ) → length file ≤ fileLimit → length file < start + size → counted.Refused (refuse short) ≡ countOf file start size
+pub count-past : (file : List ℕ) (start size : ℕ) → length file ≤ fileLimit → length file < start + size → counted.Refused (refuseOf short) ≡ countOf file start size
 unfolding countOf
 count-past file start size l h = must-on _ _ _ _ (le-leb (length file) fileLimit l) (must-off _ _ _ _ (lt-leb (start + size) (length file) h) refl)
 
 -- Two answers that meet a promise of this crate are equal.
-pub count-unique : (file : List ℕ) (start size : ℕ) {r q : Counted} → r ≡ countOf file start size → q ≡ countOf file start size → r ≡ q
+pub count-unique : (file : List ℕ) (start size : ℕ) {r q : CountEntries} → r ≡ countOf file start size → q ≡ countOf file start size → r ≡ q
 count-unique file start size = same
 
-pub entry-unique : (file : List ℕ) (start size index : ℕ) (big : Bool) {r q : Symbol} → r ≡ symbolOf big file start size index → q ≡ symbolOf big file start size index → r ≡ q
-entry-unique file start size index big = same
+pub get-at-unique : (file : List ℕ) (start size index : ℕ) (big : Bool) {r q : ReadVersym} → r ≡ getAtOf big file start size index → q ≡ getAtOf big file start size index → r ≡ q
+get-at-unique file start size index big = same
 
-pub count-in-unique : (s : List ℕ) {r q : Counted} → r ≡ countedIn s → q ≡ countedIn s → r ≡ q
+pub count-in-unique : (s : List ℕ) {r q : CountEntries} → r ≡ countInOf s → q ≡ countInOf s → r ≡ q
 count-in-unique s = same
 
-pub entry-in-unique : (s : List ℕ) (index : ℕ) (big : Bool) {r q : Symbol} → r ≡ symbolAt big s index → q ≡ symbolAt big s index → r ≡ q
-entry-in-unique s index big = same
+pub get-at-in-unique : (s : List ℕ) (index : ℕ) (big : Bool) {r q : ReadVersym} → r ≡ getAtInOf big s index → q ≡ getAtInOf big s index → r ≡ q
+get-at-in-unique s index big = same

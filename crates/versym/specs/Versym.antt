@@ -5,15 +5,15 @@ use mathlib.Core.List.{List, [], _∷_}
 use mathlib.Core.Bool.{Bool}
 use lib.ListN.{length, getD}
 use lib.Dec.{ltb, eqb}
-use Rattle.answer.specs.Answer.{cut, notFound}
+use Rattle.answer.specs.Answer.{cutOf, notFound}
 use Rattle.answer.specs.Test.{pick, must, inLimit}
 use Rattle.layout.specs.Layout.{Field, field, widths, place, size, readBy}
 use Rattle.version_section.specs.Section.{sectionOf, inFile}
-use Rattle.version_section.specs.declared.Counted.{Counted}
-use Rattle.version_section.specs.declared.Counted.the-variants as counted
+use Rattle.version_section.specs.declared.CountEntries.{CountEntries}
+use Rattle.version_section.specs.declared.CountEntries.the-variants as counted
 use Rattle.versym.specs.declared.Versym.{Versym}
-use Rattle.versym.specs.declared.Symbol.{Symbol}
-use Rattle.versym.specs.declared.Symbol.the-variants.{At, Refused}
+use Rattle.versym.specs.declared.ReadVersym.{ReadVersym}
+use Rattle.versym.specs.declared.ReadVersym.the-variants.{Value, Refused}
 
 -- offset, width, name
 abbrev pub fields : List Field
@@ -31,19 +31,19 @@ abbrev pub entriesIn : List ℕ → ℕ
 entriesIn s = length s / size entry
 
 -- "report 1 beside them and their number": with an odd last byte
-unfoldable pub countedIn : List ℕ → Counted
-countedIn s = pick (eqb (length s % size entry) 0) (counted.Whole (entriesIn s)) (counted.Cut (entriesIn s))
+unfoldable pub countInOf : List ℕ → CountEntries
+countInOf s = pick (eqb (length s % size entry) 0) (counted.Whole (entriesIn s)) (counted.Cut (entriesIn s))
 
 -- the entry at `index`: 10 at or past their number
-unfoldable pub symbolAt : Bool → List ℕ → ℕ → Symbol
-symbolAt big s index =
+unfoldable pub getAtInOf : Bool → List ℕ → ℕ → ReadVersym
+getAtInOf big s index =
     must Refused (ltb index (entriesIn s)) notFound
-    (readBy (λ ns. At (versymOf (getD ns (place "vs_val" fields) 0))) (λ end. Refused (cut end)) big entry s (size entry * index))
+    (readBy (λ ns. Value (versymOf (getD ns (place "vs_val" fields) 0))) (λ end. Refused (cutOf end)) big entry s (size entry * index))
 
 -- of a file: its length (3), then the section (1), then its entries
-unfoldable pub countOf : List ℕ → ℕ → ℕ → Counted
-countOf file start size = inLimit counted.Refused file (inFile counted.Refused file start size (countedIn (sectionOf file start size)))
+unfoldable pub countOf : List ℕ → ℕ → ℕ → CountEntries
+countOf file start size = inLimit counted.Refused file (inFile counted.Refused file start size (countInOf (sectionOf file start size)))
 
-unfoldable pub symbolOf : Bool → List ℕ → ℕ → ℕ → ℕ → Symbol
-symbolOf big file start size index =
-    inLimit Refused file (inFile Refused file start size (symbolAt big (sectionOf file start size) index))
+unfoldable pub getAtOf : Bool → List ℕ → ℕ → ℕ → ℕ → ReadVersym
+getAtOf big file start size index =
+    inLimit Refused file (inFile Refused file start size (getAtInOf big (sectionOf file start size) index))

@@ -1,10 +1,10 @@
 // The symbol version table (SHT_GNU_versym): for each symbol a number of 16 bits, with the version and whether it is hidden.
 ghost use mathlib.Core.Path.{_≡_};
-ghost use Rattle.versym.specs.Versym.{versymOf, countedIn, countOf, symbolAt, symbolOf};
+ghost use Rattle.versym.specs.Versym.{versymOf, countInOf, countOf, getAtInOf, getAtOf};
 use answer::Refusal;
 use cursor::Cursor;
-use cursor::NextHalf;
-use version_section::Counted;
+use cursor::NextU16;
+use version_section::CountEntries;
 
 const SIZE: usize = 2;
 
@@ -15,17 +15,17 @@ pub struct Versym {
     pub version: u16,
 }
 
-pub enum Symbol {
-    At(Versym),
+pub enum ReadVersym {
+    Value(Versym),
     Refused(Refusal),
 }
 
 // How many entries the section of `size` bytes from `start` has.
-pub fn count(file: &[u8], start: usize, size: usize) -> Counted
+pub fn count(file: &[u8], start: usize, size: usize) -> CountEntries
     ensures { λ r. ⌜ r ≡ countOf (now (file .entry)) start size ⌝ }
 {
     if answer::FILE_LIMIT < file.len() {
-        return Counted::Refused(Refusal {
+        return CountEntries::Refused(Refusal {
             number: answer::LIMIT,
         });
     }
@@ -33,50 +33,50 @@ pub fn count(file: &[u8], start: usize, size: usize) -> Counted
         let end = start + size;
         return count_in(&file[start..end]);
     }
-    Counted::Refused(Refusal {
+    CountEntries::Refused(Refusal {
         number: answer::SHORT,
     })
 }
 
 // The entry at `index` of that section.
-pub fn entry(file: &[u8], start: usize, size: usize, index: usize, big: bool) -> Symbol
-    ensures { λ r. ⌜ r ≡ symbolOf big (now (file .entry)) start size index ⌝ }
+pub fn get_at(file: &[u8], start: usize, size: usize, index: usize, big: bool) -> ReadVersym
+    ensures { λ r. ⌜ r ≡ getAtOf big (now (file .entry)) start size index ⌝ }
 {
     if answer::FILE_LIMIT < file.len() {
-        return Symbol::Refused(Refusal {
+        return ReadVersym::Refused(Refusal {
             number: answer::LIMIT,
         });
     }
     if fields::fits(file.len(), start, size) {
         let end = start + size;
-        return entry_in(&file[start..end], index, big);
+        return get_at_in(&file[start..end], index, big);
     }
-    Symbol::Refused(Refusal {
+    ReadVersym::Refused(Refusal {
         number: answer::SHORT,
     })
 }
 
 // The same of a section's own bytes.
-pub fn count_in(section: &[u8]) -> Counted
-    ensures { λ r. ⌜ r ≡ countedIn (now (section .entry)) ⌝ }
+pub fn count_in(section: &[u8]) -> CountEntries
+    ensures { λ r. ⌜ r ≡ countInOf (now (section .entry)) ⌝ }
 {
     let entries = section.len() / SIZE;
     if section.len() % SIZE == 0 {
-        return Counted::Whole(entries);
+        return CountEntries::Whole(entries);
     }
-    Counted::Cut(entries)
+    CountEntries::Cut(entries)
 }
 
-pub fn entry_in(section: &[u8], index: usize, big: bool) -> Symbol
-    ensures { λ r. ⌜ r ≡ symbolAt big (now (section .entry)) index ⌝ }
+pub fn get_at_in(section: &[u8], index: usize, big: bool) -> ReadVersym
+    ensures { λ r. ⌜ r ≡ getAtInOf big (now (section .entry)) index ⌝ }
 {
     if index < section.len() / SIZE {
-        return match Cursor::new(SIZE * index).u16(section, big) {
-            NextHalf::Value(t) => Symbol::At(versym_of(t.value)),
-            NextHalf::Refused(k) => Symbol::Refused(k),
+        return match Cursor::new(SIZE * index).next_u16(section, big) {
+            NextU16::Value(t) => ReadVersym::Value(versym_of(t.value)),
+            NextU16::Refused(k) => ReadVersym::Refused(k),
         };
     }
-    Symbol::Refused(Refusal {
+    ReadVersym::Refused(Refusal {
         number: answer::NOT_FOUND,
     })
 }

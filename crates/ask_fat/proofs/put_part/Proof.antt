@@ -45,11 +45,11 @@ use denote.Triple.Table.{entered, cited}
 use denote.Triple.Walked.{Stays, stay-dropped, gave-ref, walkOf, goes-dropped, goes-gave-ref, Walks, ends-at, walked, walk-meets}
 use denote.Exit.{yes}
 use denote.Triple.Clauses.{ensured, Lasts, lasts}
-use Rattle.fat.specs.declared.Part.{Part}
-use Rattle.fat.proofs.Part as T
-use Rattle.fat.proofs.Part.Laws as T′
-use Rattle.fat_member.proofs.Found as S
-use Rattle.fat_member.proofs.Found.Laws as S′
+use Rattle.fat.specs.declared.FatArchBytes.{FatArchBytes}
+use Rattle.fat.proofs.FatArchBytes as T
+use Rattle.fat.proofs.FatArchBytes.Laws as T′
+use Rattle.fat_member.proofs.ReadFatArch as S
+use Rattle.fat_member.proofs.ReadFatArch.Laws as S′
 use Rattle.fat.proofs.bytes_at as bytes
 use Rattle.fat.proofs.bytes_at.Symbol as bytes-def
 use Rattle.fat.proofs.bytes_at.Symbol.{name as #fat·bytes-at}
@@ -101,8 +101,8 @@ module _ {M : Type 1} (𝓤 : URA M) (H : Heap 𝓤) (A : Atoms 𝓤) (W : Given
   abbrev L : LL.Laws D
   L = T′.the-laws α
 
-  abbrev vd : Part → Values (D .parts)
-  vd p = (p .found, (p .bytes, tt))
+  abbrev vd : FatArchBytes → Values (D .parts)
+  vd p = (p .arch, (p .bytes, tt))
 
   -- the machine values of the slice and of `out`
   abbrev v : Val
@@ -138,20 +138,20 @@ module _ {M : Type 1} (𝓤 : URA M) (H : Heap 𝓤) (A : Atoms 𝓤) (W : Given
       move ! (2 ∷ []) $ split3 ! $ move ! (0 ∷ 2 ∷ []) $ join ! $ move ! (0 ∷ 2 ∷ []) $ join ! $ nothing ! $ move ! (1 ∷ 0 ∷ []) $ join ! $ frame ! $ done !
 
   -- the machine values of a part's fields, and the call of `say_part` on them
-  abbrev mach : Part → Val
+  abbrev mach : FatArchBytes → Val
   mach p = vstruct (spelled (D .parts) L (vd p))
 
-  abbrev to-say : Part → Say 𝓤 H A mem run .Ghost
-  to-say p = ((κs, (q, (q′, tt)), tt, (p .found, (p .bytes, (o, (n, tt)))), (valAt (D .parts) L 0 (p .found) ∷ [], (valAt (D .parts) L 1 (p .bytes) ∷ [], (x ∷ [], (vint w64 n ∷ [], tt))))), tt)
+  abbrev to-say : FatArchBytes → Say 𝓤 H A mem run .Ghost
+  to-say p = ((κs, (q, (q′, tt)), tt, (p .arch, (p .bytes, (o, (n, tt)))), (valAt (D .parts) L 0 (p .arch) ∷ [], (valAt (D .parts) L 1 (p .bytes) ∷ [], (x ∷ [], (vint w64 n ∷ [], tt))))), tt)
 
-  goes-say : (p : Part) → ent 𝓤 (⋆ 𝓤 H A (‵ (all-own (D .parts) L (vd p)) ∷ (‵ (flft κ q) ⊛ ‵ ftrue) ∷ kept ∷ [])) (Say 𝓤 H A mem run .pre (to-say p))
+  goes-say : (p : FatArchBytes) → ent 𝓤 (⋆ 𝓤 H A (‵ (all-own (D .parts) L (vd p)) ∷ (‵ (flft κ q) ⊛ ‵ ftrue) ∷ kept ∷ [])) (Say 𝓤 H A mem run .pre (to-say p))
   goes-say p =
       qed W (‵ (all-own (D .parts) L (vd p)) ∷ (‵ (flft κ q) ⊛ ‵ ftrue) ∷ kept ∷ []) ∵
       fsplit ! $ move ! (1 ∷ []) $ fsplit ! $ move ! (4 ∷ []) $ split ! $ move ! (2 ∷ 1 ∷ []) $ fjoin ! $ move ! (3 ∷ 0 ∷ []) $ fjoin ! $
       -- [what is passed; κ′'s token; true; κ's token and true]
       move ! (3 ∷ []) $ split ! $ move ! (3 ∷ 1 ∷ []) $ join ! $ move ! (1 ∷ 0 ∷ []) $ join ! $ join ! $ done !
 
-  exits : (p : Part) (r : ℕ) (w : Val) → ent 𝓤 (⋆ 𝓤 H A (‵ (usize .own r (w ∷ [])) ∷ toks ∷ raw (ensured 𝓤 H A say.ended (say.clauses 𝓤 H A mem run) κs (to-say p .0 .3) tt r) ∷ [])) (Post w)
+  exits : (p : FatArchBytes) (r : ℕ) (w : Val) → ent 𝓤 (⋆ 𝓤 H A (‵ (usize .own r (w ∷ [])) ∷ toks ∷ raw (ensured 𝓤 H A say.ended (say.clauses 𝓤 H A mem run) κs (to-say p .0 .3) tt r) ∷ [])) (Post w)
   exits p r w =
       qed W (‵ (usize .own r (w ∷ [])) ∷ toks ∷ raw (ensured 𝓤 H A say.ended (say.clauses 𝓤 H A mem run) κs (to-say p .0 .3) tt r) ∷ []) ∵
       move ! (2 ∷ []) $ use1 W (some (λ (ws : Lasts say.ended κs (to-say p .0 .3)). ‵ (lasts say.ended κs (to-say p .0 .3) ws) ⊛ raw (emp 𝓤))) (id⊢ 𝓤 _) $ pick ! (λ ws. split ! $
@@ -167,13 +167,13 @@ module _ {M : Type 1} (𝓤 : URA M) (H : Heap 𝓤) (A : Atoms 𝓤) (W : Given
         -- [_8; …; _7; …; _6; …; _5; …; _4; …; _3; …; _2; …; _1; …; room for _0; …; the tokens and what the parameters own]
         move ! (18 ∷ []) $ use1 W (raw (Bytes 𝓤 H A mem run .pre to-bytes) ⊛ kept) goes-bytes $ split ! $
         calls-at ! fm (Bytes 𝓤 H A mem run) known-bytes to-bytes (and-then ! (load ! (from ! (stop !)) (look ! 16 refl)) (and-then ! (load ! (from ! (stop !)) (look ! 14 refl)) (no-more !))) (λ u.
-        use1 W (later (some (λ (p : Part). ((‵ (flft κ q) ⊛ ‵ ftrue) ⊛ ‵ (T.the-row α .own p (u ∷ []))) ⊛ raw (ensured 𝓤 H A bytes.ended (bytes.clauses 𝓤 H A mem run) (κ, tt) (s, (i, tt)) tt p)))) (id⊢ 𝓤 _) $ await ! tt $ pick ! (λ p.
+        use1 W (later (some (λ (p : FatArchBytes). ((‵ (flft κ q) ⊛ ‵ ftrue) ⊛ ‵ (T.the-row α .own p (u ∷ []))) ⊛ raw (ensured 𝓤 H A bytes.ended (bytes.clauses 𝓤 H A mem run) (κ, tt) (s, (i, tt)) tt p)))) (id⊢ 𝓤 _) $ await ! tt $ pick ! (λ p.
         split ! $ move ! (1 ∷ []) $ drop ! $ split ! $ move ! (1 ∷ []) $
         -- [what the part owns; κ's token; what is kept; room for _8; …]
         peeks ! (T.the-row α) (Is (T.the-row α)) (shows 𝓤 H A (T.the-row α)) p (u ∷ []) (λ is.
         land ! (from ! (stop !)) (init ! 9 refl (LL.lawful (T.the-type αᵉ) (T′.the-laws αᵉ) 𝓤 H A W .typed p _ is .0)) $
         rewrite ! 9 (λ (y : Val). ‵ (fat fullShare (T′.mir erased) l₅ 0 y)) (ap only (LL.tells D L p _ is)) refl $
-        assigns ! (of-opd ! (load ! (from ! (fld ! refl (stop !))) (look-in ! 9 (sub ! 0 refl (whole !))))) (from ! (stop !)) (init ! 7 refl (EL.lawful S.the-type S′.the-laws 𝓤 H A W tt .typed (p .found) _ (LL.owed D L p _ is .0) .0)) $
+        assigns ! (of-opd ! (load ! (from ! (fld ! refl (stop !))) (look-in ! 9 (sub ! 0 refl (whole !))))) (from ! (stop !)) (init ! 7 refl (EL.lawful S.the-type S′.the-laws 𝓤 H A W tt .typed (p .arch) _ (LL.owed D L p _ is .0) .0)) $
         assigns ! (of-opd ! (load ! (from ! (fld ! refl (stop !))) (look-in ! 9 (sub ! 1 refl (whole !))))) (from ! (stop !)) (init ! 5 refl (shr-slice-lawful 𝓤 H A W erased κ u8 .typed (p .bytes) _ (LL.owed D L p _ is .1 .0) .0)) $
         assigns ! (addr ! (from ! (hop ! (look ! 13 refl) (stop !)))) (from ! (stop !)) (init ! 3 refl (tt, tt)) $
         use1 W (given (u ∷ [] ≡ mach p ∷ []) (‵ (all-own (D .parts) L (vd p)))) (own-open 𝓤 H A W D L (vd p) u) $ learn ! (λ _.

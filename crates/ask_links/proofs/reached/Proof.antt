@@ -11,8 +11,8 @@ Inv-loop s from more left₀ here₀ left here = left ≤ more
 abbrev μ-loop : tie.MeasureT-loop
 μ-loop s from more left₀ here₀ left here = left
 
-first-requires : tie.Need-first-requires Inv-loop μ-loop
-first-requires c κs = search needs
+first-info-requires : tie.Need-first-info-requires Inv-loop μ-loop
+first-info-requires c κs = search needs
 
 enum-known-i : tie.Need-enum-known-i Inv-loop μ-loop
 enum-known-i c = search needs
@@ -26,8 +26,8 @@ returns c = search needs
 loop-holds : tie.Need-loop-holds Inv-loop μ-loop
 loop-holds c = search needs
 
-next-requires : tie.Need-next-requires Inv-loop μ-loop
-next-requires c κs = search needs
+next-info-requires : tie.Need-next-info-requires Inv-loop μ-loop
+next-info-requires c κs = search needs
 
 enum-known-i-2 : tie.Need-enum-known-i-2 Inv-loop μ-loop
 enum-known-i-2 c = search needs
@@ -62,12 +62,12 @@ reached-spec =
     (tie.spec
     Inv-loop
     μ-loop
-    first-requires
+    first-info-requires
     enum-known-i
     enum-known-k
     returns
     loop-holds
-    next-requires
+    next-info-requires
     enum-known-i-2
     enum-told
     returns-2

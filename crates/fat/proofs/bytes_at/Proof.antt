@@ -39,15 +39,15 @@ use denote.Triple.Table.{entered, cited}
 use denote.Triple.Walked.{says, Stays, stay-none, stay-none-slice, walkOf, goes-none, goes-none-slice, Walks, ends-at, walked, walk-meets}
 use denote.Exit.{yes}
 use denote.Triple.Clauses.{ensured, lasts}
-use Rattle.fat_member.specs.Member.{Inside}
-use Rattle.fat.specs.Fat.{foundIn, bytesOf, startOf}
-use Rattle.fat.specs.declared.Part.{Part}
-use Rattle.fat_member.specs.declared.Found.{Found}
+use Rattle.fat_member.specs.FatArch.{Inside}
+use Rattle.fat.specs.Fat.{memberAtOf, bytesAtOf, startOf}
+use Rattle.fat.specs.declared.FatArchBytes.{FatArchBytes}
+use Rattle.fat_member.specs.declared.ReadFatArch.{ReadFatArch}
 use Rattle.fat.proofs.Laws.{found-inside}
-use Rattle.fat.proofs.Part as T
-use Rattle.fat.proofs.Part.Laws as T′
-use Rattle.fat_member.proofs.Found as S
-use Rattle.fat_member.proofs.Found.Laws as S′
+use Rattle.fat.proofs.FatArchBytes as T
+use Rattle.fat.proofs.FatArchBytes.Laws as T′
+use Rattle.fat_member.proofs.ReadFatArch as S
+use Rattle.fat_member.proofs.ReadFatArch.Laws as S′
 use Rattle.fat.proofs.member_at as member
 use Rattle.fat.proofs.member_at.Symbol as member-def
 use Rattle.fat.proofs.member_at.Symbol.{name as #fat·member-at}
@@ -99,48 +99,48 @@ module _ {M : Type 1} (𝓤 : URA M) (H : Heap 𝓤) (A : Atoms 𝓤) (W : Given
       move ! (1 ∷ []) $ fsplit ! $ use1 W (‵ Own ⊛ ‵ Own) (shr-slice-copy 𝓤 H A W (named 0) κ u8 .twice s (v ∷ [])) $ split ! $
       move ! (0 ∷ 2 ∷ []) $ fjoin ! $ move ! (2 ∷ 0 ∷ []) $ use2 W (raw (Members 𝓤 H A mem run .pre to-member)) (qed W ((‵ (flft κ q) ⊛ ‵ ftrue) ∷ ‵ (owns (ShrSlice (named 0) κ u8 ∷ usize ∷ []) (s, (i, tt)) passed) ∷ []) ∵ join ! $ frame ! $ done !) $ frame ! $ done !
 
-  member-said : (f : Found) → ent 𝓤 (ensured 𝓤 H A member.ended (member.clauses 𝓤 H A mem run) (κ, tt) (s, (i, tt)) tt f) (fact 𝓤 (f ≡ foundIn (now s) i))
-  member-said f = exE 𝓤 _ (λ ws. snd∗ 𝓤 (sem 𝓤 H A (lasts member.ended (κ, tt) (s, (i, tt)) ws)) (fact 𝓤 (f ≡ foundIn (now s) i)))
+  member-said : (f : ReadFatArch) → ent 𝓤 (ensured 𝓤 H A member.ended (member.clauses 𝓤 H A mem run) (κ, tt) (s, (i, tt)) tt f) (fact 𝓤 (f ≡ memberAtOf (now s) i))
+  member-said f = exE 𝓤 _ (λ ws. snd∗ 𝓤 (sem 𝓤 H A (lasts member.ended (κ, tt) (s, (i, tt)) ws)) (fact 𝓤 (f ≡ memberAtOf (now s) i)))
 
   -- the call of `slice`, at the found member f with the machine value u
-  abbrev to-slice : Found → Val → Slices 𝓤 H A mem run .Ghost
+  abbrev to-slice : ReadFatArch → Val → Slices 𝓤 H A mem run .Ghost
   to-slice f u = (((κ, tt), (q, tt), tt, (s, (f, tt)), (v ∷ [], (u ∷ [], tt))), tt)
 
-  asked : (f : Found) (u : Val) → Is S.the-row f (u ∷ []) → Inside (now s) f → ent 𝓤 (⋆ 𝓤 H A ((‵ (flft κ q) ⊛ ‵ ftrue) ∷ ‵ Own ∷ [])) (Slices 𝓤 H A mem run .pre (to-slice f u))
+  asked : (f : ReadFatArch) (u : Val) → Is S.the-row f (u ∷ []) → Inside (now s) f → ent 𝓤 (⋆ 𝓤 H A ((‵ (flft κ q) ⊛ ‵ ftrue) ∷ ‵ Own ∷ [])) (Slices 𝓤 H A mem run .pre (to-slice f u))
   asked f u is within =
       qed W ((‵ (flft κ q) ⊛ ‵ ftrue) ∷ ‵ Own ∷ []) ∵ says ! within $ frame ! $
       nothing ! $ owned ! S.the-row (Is S.the-row) (EL.makes S.the-type S′.the-plain 𝓤 H A) f (u ∷ []) is $ fjoin ! $ move ! (1 ∷ 0 ∷ []) $ fjoin ! $ done !
 
-  goes-slice : (f : Found) (u : Val) → Is S.the-row f (u ∷ []) → Inside (now s) f → ent 𝓤 (⋆ 𝓤 H A ((‵ (flft κ q) ⊛ ‵ ftrue) ∷ ‵ Own ∷ [])) (sep 𝓤 (Slices 𝓤 H A mem run .pre (to-slice f u)) (sem 𝓤 H A Own))
+  goes-slice : (f : ReadFatArch) (u : Val) → Is S.the-row f (u ∷ []) → Inside (now s) f → ent 𝓤 (⋆ 𝓤 H A ((‵ (flft κ q) ⊛ ‵ ftrue) ∷ ‵ Own ∷ [])) (sep 𝓤 (Slices 𝓤 H A mem run .pre (to-slice f u)) (sem 𝓤 H A Own))
   goes-slice f u is within =
       qed W ((‵ (flft κ q) ⊛ ‵ ftrue) ∷ ‵ Own ∷ []) ∵
       move ! (1 ∷ []) $ use1 W (‵ Own ⊛ ‵ Own) (shr-slice-copy 𝓤 H A W (named 0) κ u8 .twice s (v ∷ [])) $ split ! $
       move ! (2 ∷ 0 ∷ []) $ use2 W (raw (Slices 𝓤 H A mem run .pre (to-slice f u))) (asked f u is within) $ frame ! $ done !
 
   -- what it says of the part b
-  abbrev Handed : Found → RefT (List ℕ) → Type 0
-  Handed f b = (now b ≡ bytesOf (now s) f) × (b .ptr ≡ startOf (s .ptr) f)
+  abbrev Handed : ReadFatArch → RefT (List ℕ) → Type 0
+  Handed f b = (now b ≡ bytesAtOf (now s) f) × (b .ptr ≡ startOf (s .ptr) f)
 
-  slice-said : (f : Found) (b : RefT (List ℕ)) → ent 𝓤 (ensured 𝓤 H A slice.ended (slice.clauses 𝓤 H A mem run) (κ, tt) (s, (f, tt)) tt b) (fact 𝓤 (Handed f b))
+  slice-said : (f : ReadFatArch) (b : RefT (List ℕ)) → ent 𝓤 (ensured 𝓤 H A slice.ended (slice.clauses 𝓤 H A mem run) (κ, tt) (s, (f, tt)) tt b) (fact 𝓤 (Handed f b))
   slice-said f b = exE 𝓤 _ (λ ws. snd∗ 𝓤 (sem 𝓤 H A (lasts slice.ended (κ, tt) (s, (f, tt)) ws)) (fact 𝓤 (Handed f b)))
 
   -- the result, of the found member and the part, and its machine value
-  abbrev made : Found → RefT (List ℕ) → Part
-  made f b = record { found = f; bytes = b }
+  abbrev made : ReadFatArch → RefT (List ℕ) → FatArchBytes
+  made f b = record { arch = f; bytes = b }
 
   abbrev mach : Val → Val → Val
   mach u w = vstruct (vcons u (vcons w vnil))
 
-  abbrev held : Found → RefT (List ℕ) → List Val × (List Val × Unit {0}) → Fml
+  abbrev held : ReadFatArch → RefT (List ℕ) → List Val × (List Val × Unit {0}) → Fml
   held f b vss = fsep (S.the-row .own f (vss .0)) (fsep (ShrSlice (named 0) κ u8 .own b (vss .1 .0)) ftrue)
 
-  exits : (f : Found) (b : RefT (List ℕ)) (m : Val) → f ≡ foundIn (now s) i → Handed f b → ent 𝓤 (⋆ 𝓤 H A (‵ (T.the-row α .own (made f b) (m ∷ [])) ∷ (‵ (flft κ q) ⊛ ‵ ftrue) ∷ ‵ Own ∷ [])) (Post m)
+  exits : (f : ReadFatArch) (b : RefT (List ℕ)) (m : Val) → f ≡ memberAtOf (now s) i → Handed f b → ent 𝓤 (⋆ 𝓤 H A (‵ (T.the-row α .own (made f b) (m ∷ [])) ∷ (‵ (flft κ q) ⊛ ‵ ftrue) ∷ ‵ Own ∷ [])) (Post m)
   exits f b m e d =
       qed W (‵ (T.the-row α .own (made f b) (m ∷ [])) ∷ (‵ (flft κ q) ⊛ ‵ ftrue) ∷ ‵ Own ∷ []) ∵
-      suffices ! _ (ends-at 𝓤 H A bytes.ended stayed (bytes.clauses 𝓤 H A mem run) W (((κ, tt), (q, tt), tt, (s, (i, tt)), passed), tt) m (made f b) (tt, (tt, tt)) (tt, (tt, tt))) $ says ! (e, d .0 ∙ ap (bytesOf (now s)) e, d .1 ∙ ap (startOf (s .ptr)) e) $
+      suffices ! _ (ends-at 𝓤 H A bytes.ended stayed (bytes.clauses 𝓤 H A mem run) W (((κ, tt), (q, tt), tt, (s, (i, tt)), passed), tt) m (made f b) (tt, (tt, tt)) (tt, (tt, tt))) $ says ! (e, d .0 ∙ ap (bytesAtOf (now s)) e, d .1 ∙ ap (startOf (s .ptr)) e) $
       move ! (1 ∷ []) $ frame ! $ nothing ! $ owned ! usize (Is usize) (uint-makes 𝓤 H A W w64) i _ (refl, ok) $ fjoin ! $ move ! (2 ∷ 0 ∷ []) $ fjoin ! $ frame ! $ done !
 
-  within : (f : Found) → f ≡ foundIn (now s) i → Inside (now s) f
+  within : (f : ReadFatArch) → f ≡ memberAtOf (now s) i → Inside (now s) f
   within f e = rw e (found-inside (now s) i)
 
   module _ (C : Calls 𝓤 H) (Λ : Loops 𝓤 H) (fm : FmC 𝓤 H (W .laws) C) (known-member : Triple 𝓤 (C #fat·member-at) (Members 𝓤 H A mem run)) (known-slice : Triple 𝓤 (C #fat·slice) (Slices 𝓤 H A mem run)) where
@@ -152,8 +152,8 @@ module _ {M : Type 1} (𝓤 : URA M) (H : Heap 𝓤) (A : Atoms 𝓤) (W : Given
         -- [room for _4; …; room for _3; …; _2; …; _1; …; room for _0; …; the token and what the parameters own]
         move ! (10 ∷ []) $ use1 W (raw (Members 𝓤 H A mem run .pre to-member) ⊛ ‵ Own) goes-member $ split ! $
         calls-at ! fm (Members 𝓤 H A mem run) known-member to-member (and-then ! (load ! (from ! (stop !)) (look ! 8 refl)) (and-then ! (load ! (from ! (stop !)) (look ! 6 refl)) (no-more !))) (λ u.
-        use1 W (later (some (λ (f : Found). ((‵ (flft κ q) ⊛ ‵ ftrue) ⊛ ‵ (S.the-row .own f (u ∷ []))) ⊛ raw (ensured 𝓤 H A member.ended (member.clauses 𝓤 H A mem run) (κ, tt) (s, (i, tt)) tt f)))) (id⊢ 𝓤 _) $ await ! tt $ pick ! (λ f.
-        split ! $ move ! (1 ∷ []) $ use1 W (raw (fact 𝓤 (f ≡ foundIn (now s) i))) (member-said f) $ heard ! (f ≡ foundIn (now s) i) (λ e. split ! $ move ! (1 ∷ []) $
+        use1 W (later (some (λ (f : ReadFatArch). ((‵ (flft κ q) ⊛ ‵ ftrue) ⊛ ‵ (S.the-row .own f (u ∷ []))) ⊛ raw (ensured 𝓤 H A member.ended (member.clauses 𝓤 H A mem run) (κ, tt) (s, (i, tt)) tt f)))) (id⊢ 𝓤 _) $ await ! tt $ pick ! (λ f.
+        split ! $ move ! (1 ∷ []) $ use1 W (raw (fact 𝓤 (f ≡ memberAtOf (now s) i))) (member-said f) $ heard ! (f ≡ memberAtOf (now s) i) (λ e. split ! $ move ! (1 ∷ []) $
         -- [what the found member owns; the token; what the file owns; room for _4; …; room for _3; …; _2; …; _1; …; room for _0; …]
         facts ! S.the-row (Is S.the-row) (shows 𝓤 H A S.the-row) f (u ∷ []) (λ is.
         land ! (from ! (stop !)) (init ! 4 refl (EL.lawful S.the-type S′.the-laws 𝓤 H A W tt .typed f _ is .0)) $

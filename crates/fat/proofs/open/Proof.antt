@@ -4,7 +4,7 @@
 use native.Mathlib.Omega.{arith}
 use mathlib.Core.Path.{_≡_, refl, sym, _∙_}
 use Prim.Native.Nat.{_+_, _*_}
-use Rattle.fat_member.specs.Member.{fatArch}
+use Rattle.fat_member.specs.FatArch.{fatArch}
 use Rattle.fat.specs.Fat.{membersAt}
 use Rattle.fat.proofs.Laws.{counted, members-on, members-stop, members-none, opened-refused, opened-members}
 use borrow.Author.Needs.{needs}

@@ -3,7 +3,7 @@
 use mathlib.Core.Path.{_∙_}
 use borrow.Author.Needs.{needs}
 use native.Mathlib.Omega.{arith}
-use Rattle.fields.proofs.Laws.{cut-short, field-value, field-cut, byte-found, byte-missed, halves-found, byte-order}
+use Rattle.fields.proofs.Laws.{cut-short, field-value, field-cut, u8-found, u8-missed, halves-found, byte-order}
 use Rattle.fields.proofs.read_u16.Statement.{statement}
 use Rattle.fields.proofs.read_u16.Tie as tie
 
@@ -21,12 +21,12 @@ cut-requires c κs = search needs
 
 returns : tie.Need-returns
 returns c =
-    let m = byte-missed _ _ (c .before .before .before .read-u8 .ensures) (c .before .enum-told .given .1) in
+    let m = u8-missed _ _ (c .before .before .before .read-u8 .ensures) (c .before .enum-told .given .1) in
     field-cut _ _ _ 2 _ _ (omega arith) (c .cut .ensures ∙ cut-short _)
 
 add-read-u8 : tie.Need-add-read-u8
 add-read-u8 c =
-    let f = byte-found _ _ (c .before .before .before .read-u8 .ensures) (c .before .first .given .1) in
+    let f = u8-found _ _ (c .before .before .before .read-u8 .ensures) (c .before .first .given .1) in
     omega arith
 
 read-u8-requires-2 : tie.Need-read-u8-requires-2
@@ -43,17 +43,17 @@ cut-requires-2 c κs = search needs
 
 returns-2 : tie.Need-returns-2
 returns-2 c =
-    let m = byte-missed _ _ (c .before .before .before .read-u82 .ensures) (c .before .enum-told2 .given .1) in
+    let m = u8-missed _ _ (c .before .before .before .read-u82 .ensures) (c .before .enum-told2 .given .1) in
     field-cut _ _ _ 2 _ _ (omega arith) (c .cut2 .ensures ∙ cut-short _)
 
-half-of-requires : tie.Need-half-of-requires
-half-of-requires c κs = search needs
+u16-of-requires : tie.Need-u16-of-requires
+u16-of-requires c κs = search needs
 
 returns-3 : tie.Need-returns-3
 returns-3 c =
-    let f = byte-order (c .before .before .before .before .before .before .before .before .before .before .args .big) _ _ (byte-found _ _ (c .before .before .before .before .before .before .before .before .read-u8 .ensures) (c .before .before .before .before .before .before .first .given .1)) in
-    let g = byte-order (c .before .before .before .before .before .before .before .before .before .before .args .big) _ _ (byte-found _ _ (c .before .before .before .before .read-u82 .ensures) (c .before .before .second .given .1)) in
-    let j = halves-found (c .before .before .before .before .before .before .before .before .before .before .args .big) 1 _ _ _ f g (omega arith) (c .half-of .ensures) in
+    let f = byte-order (c .before .before .before .before .before .before .before .before .before .before .args .big) _ _ (u8-found _ _ (c .before .before .before .before .before .before .before .before .read-u8 .ensures) (c .before .before .before .before .before .before .first .given .1)) in
+    let g = byte-order (c .before .before .before .before .before .before .before .before .before .before .args .big) _ _ (u8-found _ _ (c .before .before .before .before .read-u82 .ensures) (c .before .before .second .given .1)) in
+    let j = halves-found (c .before .before .before .before .before .before .before .before .before .before .args .big) 1 _ _ _ f g (omega arith) (c .u16-of .ensures) in
     field-value _ _ _ 2 _ _ (j .inside) (j .value)
 
 pub read-u16-spec : {M : Type 1} → statement M
@@ -71,5 +71,5 @@ read-u16-spec =
     enum-told-2
     cut-requires-2
     returns-2
-    half-of-requires
+    u16-of-requires
     returns-3)

@@ -3,7 +3,7 @@
 use mathlib.Core.Path.{_∙_}
 use borrow.Author.Needs.{needs}
 use native.Mathlib.Omega.{arith}
-use Rattle.fields.proofs.Laws.{cut-short, field-value, field-cut, half-found, half-missed, halves-found}
+use Rattle.fields.proofs.Laws.{cut-short, field-value, field-cut, u16-found, u16-missed, halves-found}
 use Rattle.fields.proofs.read_u32.Statement.{statement}
 use Rattle.fields.proofs.read_u32.Tie as tie
 
@@ -21,12 +21,12 @@ cut-requires c κs = search needs
 
 returns : tie.Need-returns
 returns c =
-    let m = half-missed _ _ _ (c .before .before .before .read-u16 .ensures) (c .before .enum-told .given .1) in
+    let m = u16-missed _ _ _ (c .before .before .before .read-u16 .ensures) (c .before .enum-told .given .1) in
     field-cut _ _ _ 4 _ _ (omega arith) (c .cut .ensures ∙ cut-short _)
 
 add-read-u16 : tie.Need-add-read-u16
 add-read-u16 c =
-    let f = half-found _ _ _ (c .before .before .before .read-u16 .ensures) (c .before .first .given .1) in
+    let f = u16-found _ _ _ (c .before .before .before .read-u16 .ensures) (c .before .first .given .1) in
     omega arith
 
 read-u16-requires-2 : tie.Need-read-u16-requires-2
@@ -43,17 +43,17 @@ cut-requires-2 c κs = search needs
 
 returns-2 : tie.Need-returns-2
 returns-2 c =
-    let m = half-missed _ _ _ (c .before .before .before .read-u162 .ensures) (c .before .enum-told2 .given .1) in
+    let m = u16-missed _ _ _ (c .before .before .before .read-u162 .ensures) (c .before .enum-told2 .given .1) in
     field-cut _ _ _ 4 _ _ (omega arith) (c .cut2 .ensures ∙ cut-short _)
 
-word-of-requires : tie.Need-word-of-requires
-word-of-requires c κs = search needs
+u32-of-requires : tie.Need-u32-of-requires
+u32-of-requires c κs = search needs
 
 returns-3 : tie.Need-returns-3
 returns-3 c =
-    let f = half-found _ _ _ (c .before .before .before .before .before .before .before .before .read-u16 .ensures) (c .before .before .before .before .before .before .first .given .1) in
-    let g = half-found _ _ _ (c .before .before .before .before .read-u162 .ensures) (c .before .before .second .given .1) in
-    let j = halves-found (c .before .before .before .before .before .before .before .before .before .before .args .big) 2 _ _ _ f g (omega arith) (c .word-of .ensures) in
+    let f = u16-found _ _ _ (c .before .before .before .before .before .before .before .before .read-u16 .ensures) (c .before .before .before .before .before .before .first .given .1) in
+    let g = u16-found _ _ _ (c .before .before .before .before .read-u162 .ensures) (c .before .before .second .given .1) in
+    let j = halves-found (c .before .before .before .before .before .before .before .before .before .before .args .big) 2 _ _ _ f g (omega arith) (c .u32-of .ensures) in
     field-value _ _ _ 4 _ _ (j .inside) (j .value)
 
 pub read-u32-spec : {M : Type 1} → statement M
@@ -71,5 +71,5 @@ read-u32-spec =
     enum-told-2
     cut-requires-2
     returns-2
-    word-of-requires
+    u32-of-requires
     returns-3)

@@ -3,7 +3,7 @@
 use mathlib.Core.Path.{_∙_}
 use borrow.Author.Needs.{needs}
 use native.Mathlib.Omega.{arith}
-use Rattle.fields.proofs.Laws.{cut-short, field-value, field-cut, word-found, word-missed, halves-found}
+use Rattle.fields.proofs.Laws.{cut-short, field-value, field-cut, u32-found, u32-missed, halves-found}
 use Rattle.fields.proofs.read_u64.Statement.{statement}
 use Rattle.fields.proofs.read_u64.Tie as tie
 
@@ -21,12 +21,12 @@ cut-requires c κs = search needs
 
 returns : tie.Need-returns
 returns c =
-    let m = word-missed _ _ _ (c .before .before .before .read-u32 .ensures) (c .before .enum-told .given .1) in
+    let m = u32-missed _ _ _ (c .before .before .before .read-u32 .ensures) (c .before .enum-told .given .1) in
     field-cut _ _ _ 8 _ _ (omega arith) (c .cut .ensures ∙ cut-short _)
 
 add-read-u32 : tie.Need-add-read-u32
 add-read-u32 c =
-    let f = word-found _ _ _ (c .before .before .before .read-u32 .ensures) (c .before .first .given .1) in
+    let f = u32-found _ _ _ (c .before .before .before .read-u32 .ensures) (c .before .first .given .1) in
     omega arith
 
 read-u32-requires-2 : tie.Need-read-u32-requires-2
@@ -43,17 +43,17 @@ cut-requires-2 c κs = search needs
 
 returns-2 : tie.Need-returns-2
 returns-2 c =
-    let m = word-missed _ _ _ (c .before .before .before .read-u322 .ensures) (c .before .enum-told2 .given .1) in
+    let m = u32-missed _ _ _ (c .before .before .before .read-u322 .ensures) (c .before .enum-told2 .given .1) in
     field-cut _ _ _ 8 _ _ (omega arith) (c .cut2 .ensures ∙ cut-short _)
 
-long-of-requires : tie.Need-long-of-requires
-long-of-requires c κs = search needs
+u64-of-requires : tie.Need-u64-of-requires
+u64-of-requires c κs = search needs
 
 returns-3 : tie.Need-returns-3
 returns-3 c =
-    let f = word-found _ _ _ (c .before .before .before .before .before .before .before .before .read-u32 .ensures) (c .before .before .before .before .before .before .first .given .1) in
-    let g = word-found _ _ _ (c .before .before .before .before .read-u322 .ensures) (c .before .before .second .given .1) in
-    let j = halves-found (c .before .before .before .before .before .before .before .before .before .before .args .big) 4 _ _ _ f g (omega arith) (c .long-of .ensures) in
+    let f = u32-found _ _ _ (c .before .before .before .before .before .before .before .before .read-u32 .ensures) (c .before .before .before .before .before .before .first .given .1) in
+    let g = u32-found _ _ _ (c .before .before .before .before .read-u322 .ensures) (c .before .before .second .given .1) in
+    let j = halves-found (c .before .before .before .before .before .before .before .before .before .before .args .big) 4 _ _ _ f g (omega arith) (c .u64-of .ensures) in
     field-value _ _ _ 8 _ _ (j .inside) (j .value)
 
 pub read-u64-spec : {M : Type 1} → statement M
@@ -71,5 +71,5 @@ read-u64-spec =
     enum-told-2
     cut-requires-2
     returns-2
-    long-of-requires
+    u64-of-requires
     returns-3)

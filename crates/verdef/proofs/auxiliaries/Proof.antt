@@ -1,6 +1,6 @@
 -- `verdef::auxiliaries` meets its contract: it is the list of auxiliaries from the place that the row gives.
 -- Assumes nothing.
-use Rattle.verdef.specs.Verdef.{auxiliariesIn, auxiliariesOut}
+use Rattle.verdef.specs.Verdef.{auxiliariesOf, auxiliariesOut}
 use borrow.Author.Needs.{needs}
 use Rattle.verdef.proofs.auxiliaries.Statement.{statement}
 use Rattle.verdef.proofs.auxiliaries.Tie as tie
@@ -15,7 +15,7 @@ same-length : tie.Need-same-length
 same-length c = search needs
 
 returns : tie.Need-returns
-unfolding auxiliariesIn auxiliariesOut
+unfolding auxiliariesOf auxiliariesOut
 returns c = c .before .before .list .ensures
 
 pub auxiliaries-spec : {M : Type 1} → statement M

@@ -1,6 +1,6 @@
 -- `verneed::needs` meets its contract: it is the list of needs from the section's start.
 -- Assumes nothing.
-use Rattle.verneed.specs.Verneed.{needsIn, needsOut}
+use Rattle.verneed.specs.Verneed.{needsOf, needsOut}
 use borrow.Author.Needs.{needs}
 use Rattle.verneed.proofs.needs.Statement.{statement}
 use Rattle.verneed.proofs.needs.Tie as tie
@@ -12,7 +12,7 @@ same-length : tie.Need-same-length
 same-length c = search needs
 
 returns : tie.Need-returns
-unfolding needsIn needsOut
+unfolding needsOf needsOut
 returns c = c .before .before .list .ensures
 
 pub needs-spec : {M : Type 1} → statement M

@@ -8,7 +8,7 @@ use lib.ListN.{length}
 use Rattle.fields.specs.Field.{put}
 use Rattle.version_record.specs.Record.{layout}
 use Rattle.version_record.proofs.Laws.{sized}
-use Rattle.version_list.specs.List.{walk, flat}
+use Rattle.version_list.specs.List.{entriesFrom, flat}
 use Rattle.version_list.proofs.Laws.{more, first-of, rest-put, all-put}
 use Rattle.version_list.proofs.fill.Statement.{statement}
 use Rattle.version_list.proofs.fill.Tie as tie
@@ -16,8 +16,8 @@ use Rattle.version_list.proofs.fill.Tie as tie
 abbrev Inv-loop : tie.InvT-loop
 Inv-loop section entries at big kind out₀ columns left₀ place₀ base₀ out left place base =
     (base + left * suc (length (layout kind)) ≤ length out)
-    × (length (walk kind big section left place .rows) ≡ left)
-    × (put out₀ 0 (flat (walk kind big section entries at .rows)) ≡ put out base (flat (walk kind big section left place .rows)))
+    × (length (entriesFrom kind big section left place .rows) ≡ left)
+    × (put out₀ 0 (flat (entriesFrom kind big section entries at .rows)) ≡ put out base (flat (entriesFrom kind big section left place .rows)))
     × (length out ≡ length out₀)
 
 abbrev μ-loop : tie.MeasureT-loop

@@ -6,7 +6,7 @@ use Prim.Native.Nat.{suc, _+_, _*_}
 use lib.ListN.{length}
 use Rattle.version_record.specs.Record.{layout}
 use Rattle.version_record.proofs.Laws.{sized}
-use Rattle.version_list.specs.List.{walk, flat}
+use Rattle.version_list.specs.List.{entriesFrom, flat}
 use Rattle.version_list.proofs.Laws.{few, product, same-rows, all-rows, rows-room, counted-full, counted-whole, counted-cut}
 use borrow.Author.Needs.{needs}
 use Rattle.version_list.proofs.list_in.Statement.{statement}
@@ -29,8 +29,8 @@ mul-if1 c =
 
 returns : tie.Need-returns
 returns c =
-    let e : c .before .before .measure .result .entries * (c .before .fields-of .result + 1) ≡ length (flat ((walk (c .before .before .before .before .before .args .kind) (c .before .before .before .before .before .args .big) (c .before .before .before .before .before .args .section .now) (c .before .before .before .before .before .args .stated) (c .before .before .before .before .before .args .at)) .rows)) = rows-room (c .before .before .before .before .before .args .kind) (c .before .before .before .before .before .args .big) (c .before .before .before .before .before .args .section .now) (c .before .before .before .before .before .args .stated) (c .before .before .before .before .before .args .at) _ _ (c .before .before .measure .ensures .0) (c .before .fields-of .ensures) in
-    counted-full (walk (c .before .before .before .before .before .args .kind) (c .before .before .before .before .before .args .big) (c .before .before .before .before .before .args .section .now) (c .before .before .before .before .before .args .stated) (c .before .before .before .before .before .args .at)) _ (rw e at (c .if1 .taken)) refl
+    let e : c .before .before .measure .result .entries * (c .before .fields-of .result + 1) ≡ length (flat ((entriesFrom (c .before .before .before .before .before .args .kind) (c .before .before .before .before .before .args .big) (c .before .before .before .before .before .args .section .now) (c .before .before .before .before .before .args .stated) (c .before .before .before .before .before .args .at)) .rows)) = rows-room (c .before .before .before .before .before .args .kind) (c .before .before .before .before .before .args .big) (c .before .before .before .before .before .args .section .now) (c .before .before .before .before .before .args .stated) (c .before .before .before .before .before .args .at) _ _ (c .before .before .measure .ensures .0) (c .before .fields-of .ensures) in
+    counted-full (entriesFrom (c .before .before .before .before .before .args .kind) (c .before .before .before .before .before .args .big) (c .before .before .before .before .before .args .section .now) (c .before .before .before .before .before .args .stated) (c .before .before .before .before .before .args .at)) _ (rw e at (c .if1 .taken)) refl
 
 fill-requires : tie.Need-fill-requires
 fill-requires c κs =
@@ -42,18 +42,18 @@ same-length c = search needs
 
 returns-2 : tie.Need-returns-2
 returns-2 c =
-    let e : c .before .before .before .before .before .before .before .measure .result .entries * (c .before .before .before .before .before .before .fields-of .result + 1) ≡ length (flat ((walk (c .before .before .before .before .before .before .before .before .before .before .args .kind) (c .before .before .before .before .before .before .before .before .before .before .args .big) (c .before .before .before .before .before .before .before .before .before .before .args .section .now) (c .before .before .before .before .before .before .before .before .before .before .args .stated) (c .before .before .before .before .before .before .before .before .before .before .args .at)) .rows)) = rows-room (c .before .before .before .before .before .before .before .before .before .before .args .kind) (c .before .before .before .before .before .before .before .before .before .before .args .big) (c .before .before .before .before .before .before .before .before .before .before .args .section .now) (c .before .before .before .before .before .before .before .before .before .before .args .stated) (c .before .before .before .before .before .before .before .before .before .before .args .at) _ _ (c .before .before .before .before .before .before .before .measure .ensures .0) (c .before .before .before .before .before .before .fields-of .ensures) in
+    let e : c .before .before .before .before .before .before .before .measure .result .entries * (c .before .before .before .before .before .before .fields-of .result + 1) ≡ length (flat ((entriesFrom (c .before .before .before .before .before .before .before .before .before .before .args .kind) (c .before .before .before .before .before .before .before .before .before .before .args .big) (c .before .before .before .before .before .before .before .before .before .before .args .section .now) (c .before .before .before .before .before .before .before .before .before .before .args .stated) (c .before .before .before .before .before .before .before .before .before .before .args .at)) .rows)) = rows-room (c .before .before .before .before .before .before .before .before .before .before .args .kind) (c .before .before .before .before .before .before .before .before .before .before .args .big) (c .before .before .before .before .before .before .before .before .before .before .args .section .now) (c .before .before .before .before .before .before .before .before .before .before .args .stated) (c .before .before .before .before .before .before .before .before .before .before .args .at) _ _ (c .before .before .before .before .before .before .before .measure .ensures .0) (c .before .before .before .before .before .before .fields-of .ensures) in
     let r = same-rows (c .before .before .before .before .before .before .before .before .before .before .args .kind) (c .before .before .before .before .before .before .before .before .before .before .args .big) (c .before .before .before .before .before .before .before .before .before .before .args .section .now) (c .before .before .before .before .before .before .before .before .before .before .args .stated) (c .before .before .before .before .before .before .before .before .before .before .args .at) (c .before .before .before .before .before .before .before .measure .ensures .0) in
-    counted-whole (walk (c .before .before .before .before .before .before .before .before .before .before .args .kind) (c .before .before .before .before .before .before .before .before .before .before .args .big) (c .before .before .before .before .before .before .before .before .before .before .args .section .now) (c .before .before .before .before .before .before .before .before .before .before .args .stated) (c .before .before .before .before .before .before .before .before .before .before .args .at)) _ (c .before .before .before .before .before .before .before .measure .ensures .0) (c .before .before .before .before .before .before .before .measure .ensures .1) (rw e at (c .before .before .before .before .before .if1 .left)) (rw r at (c .before .before .before .fill .ensures)) (c .if2 .taken)
+    counted-whole (entriesFrom (c .before .before .before .before .before .before .before .before .before .before .args .kind) (c .before .before .before .before .before .before .before .before .before .before .args .big) (c .before .before .before .before .before .before .before .before .before .before .args .section .now) (c .before .before .before .before .before .before .before .before .before .before .args .stated) (c .before .before .before .before .before .before .before .before .before .before .args .at)) _ (c .before .before .before .before .before .before .before .measure .ensures .0) (c .before .before .before .before .before .before .before .measure .ensures .1) (rw e at (c .before .before .before .before .before .if1 .left)) (rw r at (c .before .before .before .fill .ensures)) (c .if2 .taken)
 
 same-length-2 : tie.Need-same-length-2
 same-length-2 c = search needs
 
 returns-3 : tie.Need-returns-3
 returns-3 c =
-    let e : c .before .before .before .before .before .before .before .measure .result .entries * (c .before .before .before .before .before .before .fields-of .result + 1) ≡ length (flat ((walk (c .before .before .before .before .before .before .before .before .before .before .args .kind) (c .before .before .before .before .before .before .before .before .before .before .args .big) (c .before .before .before .before .before .before .before .before .before .before .args .section .now) (c .before .before .before .before .before .before .before .before .before .before .args .stated) (c .before .before .before .before .before .before .before .before .before .before .args .at)) .rows)) = rows-room (c .before .before .before .before .before .before .before .before .before .before .args .kind) (c .before .before .before .before .before .before .before .before .before .before .args .big) (c .before .before .before .before .before .before .before .before .before .before .args .section .now) (c .before .before .before .before .before .before .before .before .before .before .args .stated) (c .before .before .before .before .before .before .before .before .before .before .args .at) _ _ (c .before .before .before .before .before .before .before .measure .ensures .0) (c .before .before .before .before .before .before .fields-of .ensures) in
+    let e : c .before .before .before .before .before .before .before .measure .result .entries * (c .before .before .before .before .before .before .fields-of .result + 1) ≡ length (flat ((entriesFrom (c .before .before .before .before .before .before .before .before .before .before .args .kind) (c .before .before .before .before .before .before .before .before .before .before .args .big) (c .before .before .before .before .before .before .before .before .before .before .args .section .now) (c .before .before .before .before .before .before .before .before .before .before .args .stated) (c .before .before .before .before .before .before .before .before .before .before .args .at)) .rows)) = rows-room (c .before .before .before .before .before .before .before .before .before .before .args .kind) (c .before .before .before .before .before .before .before .before .before .before .args .big) (c .before .before .before .before .before .before .before .before .before .before .args .section .now) (c .before .before .before .before .before .before .before .before .before .before .args .stated) (c .before .before .before .before .before .before .before .before .before .before .args .at) _ _ (c .before .before .before .before .before .before .before .measure .ensures .0) (c .before .before .before .before .before .before .fields-of .ensures) in
     let r = same-rows (c .before .before .before .before .before .before .before .before .before .before .args .kind) (c .before .before .before .before .before .before .before .before .before .before .args .big) (c .before .before .before .before .before .before .before .before .before .before .args .section .now) (c .before .before .before .before .before .before .before .before .before .before .args .stated) (c .before .before .before .before .before .before .before .before .before .before .args .at) (c .before .before .before .before .before .before .before .measure .ensures .0) in
-    counted-cut (walk (c .before .before .before .before .before .before .before .before .before .before .args .kind) (c .before .before .before .before .before .before .before .before .before .before .args .big) (c .before .before .before .before .before .before .before .before .before .before .args .section .now) (c .before .before .before .before .before .before .before .before .before .before .args .stated) (c .before .before .before .before .before .before .before .before .before .before .args .at)) _ (c .before .before .before .before .before .before .before .measure .ensures .0) (c .before .before .before .before .before .before .before .measure .ensures .1) (rw e at (c .before .before .before .before .before .if1 .left)) (rw r at (c .before .before .before .fill .ensures)) (c .if2 .left)
+    counted-cut (entriesFrom (c .before .before .before .before .before .before .before .before .before .before .args .kind) (c .before .before .before .before .before .before .before .before .before .before .args .big) (c .before .before .before .before .before .before .before .before .before .before .args .section .now) (c .before .before .before .before .before .before .before .before .before .before .args .stated) (c .before .before .before .before .before .before .before .before .before .before .args .at)) _ (c .before .before .before .before .before .before .before .measure .ensures .0) (c .before .before .before .before .before .before .before .measure .ensures .1) (rw e at (c .before .before .before .before .before .if1 .left)) (rw r at (c .before .before .before .fill .ensures)) (c .if2 .left)
 
 pub list-in-spec : {M : Type 1} → statement M
 list-in-spec =

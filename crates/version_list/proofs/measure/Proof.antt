@@ -5,14 +5,14 @@ use borrow.Author.Needs.{needs}
 use mathlib.Core.Path.{_≡_, refl, sym, _∙_}
 use Prim.Native.Nat.{_+_}
 use lib.ListN.{length}
-use Rattle.version_list.specs.List.{walk}
+use Rattle.version_list.specs.List.{entriesFrom}
 use Rattle.version_list.proofs.Laws.{count-none, count-next, count-last, count-bad, next-there}
 use Rattle.version_list.proofs.measure.Statement.{statement}
 use Rattle.version_list.proofs.measure.Tie as tie
 
 abbrev Inv-loop : tie.InvT-loop
 Inv-loop section stated at big kind left₀ entries₀ place₀ left entries place =
-    (entries + left ≡ stated) × (length (walk kind big section stated at .rows) ≡ entries + length (walk kind big section left place .rows)) × (walk kind big section stated at .whole ≡ walk kind big section left place .whole)
+    (entries + left ≡ stated) × (length (entriesFrom kind big section stated at .rows) ≡ entries + length (entriesFrom kind big section left place .rows)) × (entriesFrom kind big section stated at .whole ≡ entriesFrom kind big section left place .whole)
 
 abbrev μ-loop : tie.MeasureT-loop
 μ-loop section stated at big kind left₀ entries₀ place₀ left entries place = left
@@ -20,8 +20,8 @@ abbrev μ-loop : tie.MeasureT-loop
 loop-holds : tie.Need-loop-holds Inv-loop μ-loop
 loop-holds c = (omega arith, omega arith, refl)
 
-step-at-requires : tie.Need-step-at-requires Inv-loop μ-loop
-step-at-requires c κs = search needs
+onward-at-requires : tie.Need-onward-at-requires Inv-loop μ-loop
+onward-at-requires c κs = search needs
 
 enum-known-n : tie.Need-enum-known-n Inv-loop μ-loop
 enum-known-n c = search needs
@@ -30,7 +30,7 @@ cast-place : tie.Need-cast-place Inv-loop μ-loop
 cast-place c = search needs
 
 add-place : tie.Need-add-place Inv-loop μ-loop
-add-place c = omega (arith, next-there (c .before .before .before .before .before .before .before .args .kind) (c .before .before .before .before .before .before .before .args .big) (c .before .before .before .before .before .before .before .args .section .now) (c .before .before .before .before .before .loop .place) (sym (c .before .n .given .1) ∙ c .before .before .before .step-at .ensures))
+add-place c = omega (arith, next-there (c .before .before .before .before .before .before .before .args .kind) (c .before .before .before .before .before .before .before .args .big) (c .before .before .before .before .before .before .before .args .section .now) (c .before .before .before .before .before .loop .place) (sym (c .before .n .given .1) ∙ c .before .before .before .onward-at .ensures))
 
 enum-told : tie.Need-enum-told Inv-loop μ-loop
 enum-told c = search needs
@@ -40,7 +40,7 @@ add-t13 c = omega arith
 
 returns : tie.Need-returns Inv-loop μ-loop
 returns c =
-    let q = count-last (c .before .before .before .before .before .before .args .kind) (c .before .before .before .before .before .before .args .big) (c .before .before .before .before .before .before .args .section .now) (c .before .before .before .before .loop .left) (c .before .before .before .before .loop .place) (c .before .before .before .loop-test .taken) (sym (c .enum-told .given .1) ∙ c .before .before .step-at .ensures) in
+    let q = count-last (c .before .before .before .before .before .before .args .kind) (c .before .before .before .before .before .before .args .big) (c .before .before .before .before .before .before .args .section .now) (c .before .before .before .before .loop .left) (c .before .before .before .before .loop .place) (c .before .before .before .loop-test .taken) (sym (c .enum-told .given .1) ∙ c .before .before .onward-at .ensures) in
     (omega arith, sym (c .before .before .before .before .loop .inv .2 ∙ q .1))
 
 enum-told-2 : tie.Need-enum-told-2 Inv-loop μ-loop
@@ -48,7 +48,7 @@ enum-told-2 c = search needs
 
 returns-2 : tie.Need-returns-2 Inv-loop μ-loop
 returns-2 c =
-    let q = count-bad (c .before .before .before .before .before .before .args .kind) (c .before .before .before .before .before .before .args .big) (c .before .before .before .before .before .before .args .section .now) (c .before .before .before .before .loop .left) (c .before .before .before .before .loop .place) (c .before .before .before .loop-test .taken) (sym (c .enum-told2 .given .1) ∙ c .before .before .step-at .ensures) in
+    let q = count-bad (c .before .before .before .before .before .before .args .kind) (c .before .before .before .before .before .before .args .big) (c .before .before .before .before .before .before .args .section .now) (c .before .before .before .before .loop .left) (c .before .before .before .before .loop .place) (c .before .before .before .loop-test .taken) (sym (c .enum-told2 .given .1) ∙ c .before .before .onward-at .ensures) in
     (omega arith, sym (c .before .before .before .before .loop .inv .2 ∙ q .1))
 
 add-entries : tie.Need-add-entries Inv-loop μ-loop
@@ -62,7 +62,7 @@ loop-less c = omega arith
 
 loop-again : tie.Need-loop-again Inv-loop μ-loop
 loop-again c =
-    let q = count-next (c .before .before .before .before .before .before .before .args .kind) (c .before .before .before .before .before .before .before .args .big) (c .before .before .before .before .before .before .before .args .section .now) (c .before .before .before .before .before .loop .left) (c .before .before .before .before .before .loop .place) (c .before .before .before .before .loop-test .taken) (sym (c .before .n .given .1) ∙ c .before .before .before .step-at .ensures) in
+    let q = count-next (c .before .before .before .before .before .before .before .args .kind) (c .before .before .before .before .before .before .before .args .big) (c .before .before .before .before .before .before .before .args .section .now) (c .before .before .before .before .before .loop .left) (c .before .before .before .before .before .loop .place) (c .before .before .before .before .loop-test .taken) (sym (c .before .n .given .1) ∙ c .before .before .before .onward-at .ensures) in
     (omega arith, omega arith, c .before .before .before .before .before .loop .inv .2 ∙ q .1)
 
 returns-3 : tie.Need-returns-3 Inv-loop μ-loop
@@ -77,7 +77,7 @@ measure-spec =
     Inv-loop
     μ-loop
     loop-holds
-    step-at-requires
+    onward-at-requires
     enum-known-n
     cast-place
     add-place

@@ -7,8 +7,8 @@ use borrow.Author.Needs.{needs}
 use Rattle.version_list.proofs.place_after.Statement.{statement}
 use Rattle.version_list.proofs.place_after.Tie as tie
 
-step-at-requires : tie.Need-step-at-requires
-step-at-requires c κs = search needs
+onward-at-requires : tie.Need-onward-at-requires
+onward-at-requires c κs = search needs
 
 enum-known-n : tie.Need-enum-known-n
 enum-known-n c = search needs
@@ -17,7 +17,7 @@ cast-result : tie.Need-cast-result
 cast-result c = search needs
 
 add-result : tie.Need-add-result
-add-result c = omega (arith, next-there (c .before .before .before .before .before .args .kind) (c .before .before .before .before .before .args .big) (c .before .before .before .before .before .args .section .now) (c .before .before .before .before .before .args .at) (sym (c .before .n .given .1) ∙ c .before .before .before .step-at .ensures))
+add-result c = omega (arith, next-there (c .before .before .before .before .before .args .kind) (c .before .before .before .before .before .args .big) (c .before .before .before .before .before .args .section .now) (c .before .before .before .before .before .args .at) (sym (c .before .n .given .1) ∙ c .before .before .before .onward-at .ensures))
 
 enum-told : tie.Need-enum-told
 enum-told c = search needs
@@ -26,19 +26,19 @@ enum-told-2 : tie.Need-enum-told-2
 enum-told-2 c = search needs
 
 returns : tie.Need-returns
-returns c = let e = (sym (c .before .n .given .1) ∙ c .before .before .before .step-at .ensures) in rw (← e)
+returns c = let e = (sym (c .before .n .given .1) ∙ c .before .before .before .onward-at .ensures) in rw (← e)
 
 returns-2 : tie.Need-returns-2
-returns-2 c = let e = (sym (c .enum-told .given .1) ∙ c .before .before .step-at .ensures) in rw (← e)
+returns-2 c = let e = (sym (c .enum-told .given .1) ∙ c .before .before .onward-at .ensures) in rw (← e)
 
 returns-3 : tie.Need-returns-3
-returns-3 c = let e = (sym (c .enum-told2 .given .1) ∙ c .before .before .step-at .ensures) in rw (← e)
+returns-3 c = let e = (sym (c .enum-told2 .given .1) ∙ c .before .before .onward-at .ensures) in rw (← e)
 
 pub place-after-spec : {M : Type 1} → statement M
 place-after-spec =
     tie.close
     (tie.spec
-    step-at-requires
+    onward-at-requires
     enum-known-n
     cast-result
     add-result

@@ -1,4 +1,4 @@
--- `versym_section::VersymSection::get_at` meets its contract: a walk of its MIR, by hand. The struct is taken apart, and `versym::entry_in` is called on the slice, the index and the order. All that the proof knows of it is that it meets its contract.
+-- `versym_section::VersymSection::get_at` meets its contract: a walk of its MIR, by hand. The struct is taken apart, and `versym::get_at_in` is called on the slice, the index and the order. All that the proof knows of it is that it meets its contract.
 -- The struct is Copy: what it owns is had twice, one copy is kept whole for the exit, and of the other what bytes owns goes to the callee, beside the lifetime's token, which comes back.
 -- Assumes nothing.
 use mathlib.Core.Path.{_≡_, refl}
@@ -43,17 +43,17 @@ use denote.Triple.Table.{entered, cited}
 use denote.Triple.Walked.{says, Stays, stay-none, walkOf, goes-none, Walks, ends-at, walked, walk-meets}
 use denote.Exit.{yes}
 use denote.Triple.Clauses.{ensured, lasts}
-use Rattle.versym.specs.Versym.{symbolAt}
+use Rattle.versym.specs.Versym.{getAtInOf}
 use Rattle.versym_section.specs.declared.VersymSection.{VersymSection}
-use Rattle.versym.specs.declared.Symbol.{Symbol}
+use Rattle.versym.specs.declared.ReadVersym.{ReadVersym}
 use Rattle.versym_section.proofs.VersymSection as T
 use Rattle.versym_section.proofs.VersymSection.Laws as T′
-use Rattle.versym.proofs.Symbol as S
-use Rattle.versym.proofs.Symbol.Laws as S′
-use Rattle.versym.proofs.entry_in as callee
-use Rattle.versym.proofs.entry_in.Symbol as callee-def
-use Rattle.versym.proofs.entry_in.Symbol.{name as #callee}
-use Rattle.versym.proofs.entry_in.Met as callee-thm
+use Rattle.versym.proofs.ReadVersym as S
+use Rattle.versym.proofs.ReadVersym.Laws as S′
+use Rattle.versym.proofs.get_at_in as callee
+use Rattle.versym.proofs.get_at_in.Symbol as callee-def
+use Rattle.versym.proofs.get_at_in.Symbol.{name as #callee}
+use Rattle.versym.proofs.get_at_in.Met as callee-thm
 use Rattle.versym_section.proofs.VersymSection.get_at.Key.{name as #get}
 use Rattle.versym_section.proofs.VersymSection.get_at as get
 use Rattle.versym_section.proofs.VersymSection.get_at.Statement as stated
@@ -82,8 +82,8 @@ module _ {M : Type 1} (𝓤 : URA M) (H : Heap 𝓤) (A : Atoms 𝓤) (W : Given
   abbrev at : Vals get.signature (κ, tt)
   at = (mach ∷ [], (vint w64 i ∷ [], tt))
 
-  abbrev found : Symbol
-  found = symbolAt (d .big) (now (d .bytes)) i
+  abbrev found : ReadVersym
+  found = getAtInOf (d .big) (now (d .bytes)) i
 
   abbrev Post : Val → SProp 𝓤
   Post = walkOf 𝓤 H A get.ended stayed (get.clauses 𝓤 H A mem run) .post (((κ, tt), (q, tt), tt, (d, (i, tt)), at), tt)
@@ -122,10 +122,10 @@ module _ {M : Type 1} (𝓤 : URA M) (H : Heap 𝓤) (A : Atoms 𝓤) (W : Given
       move ! (2 ∷ 0 ∷ []) $ use2 W (raw (Callee 𝓤 H A mem run .pre to)) asked $ frame ! $ done !)
 
   -- of the callee's `ensured`, the clause alone: it has no `&mut`, so what is said of last values is dropped
-  said : (r : Symbol) → ent 𝓤 (ensured 𝓤 H A callee.ended (callee.clauses 𝓤 H A mem run) (κ, tt) (d .bytes, (i, (d .big, tt))) tt r) (fact 𝓤 (r ≡ found))
+  said : (r : ReadVersym) → ent 𝓤 (ensured 𝓤 H A callee.ended (callee.clauses 𝓤 H A mem run) (κ, tt) (d .bytes, (i, (d .big, tt))) tt r) (fact 𝓤 (r ≡ found))
   said r = exE 𝓤 _ (λ ws. snd∗ 𝓤 (sem 𝓤 H A (lasts callee.ended (κ, tt) (d .bytes, (i, (d .big, tt))) ws)) (fact 𝓤 (r ≡ found)))
 
-  exits : (r : Symbol) (u : Val) → r ≡ found → ent 𝓤 (⋆ 𝓤 H A (‵ (S.the-row .own r (u ∷ [])) ∷ (‵ (flft κ q) ⊛ ‵ ftrue) ∷ ‵ Own ∷ [])) (Post u)
+  exits : (r : ReadVersym) (u : Val) → r ≡ found → ent 𝓤 (⋆ 𝓤 H A (‵ (S.the-row .own r (u ∷ [])) ∷ (‵ (flft κ q) ⊛ ‵ ftrue) ∷ ‵ Own ∷ [])) (Post u)
   exits r u e =
       qed W (‵ (S.the-row .own r (u ∷ [])) ∷ (‵ (flft κ q) ⊛ ‵ ftrue) ∷ ‵ Own ∷ []) ∵
       suffices ! _ (ends-at 𝓤 H A get.ended stayed (get.clauses 𝓤 H A mem run) W (((κ, tt), (q, tt), tt, (d, (i, tt)), at), tt) u r (tt, (tt, tt)) (tt, (tt, tt))) $ says ! e $
@@ -140,7 +140,7 @@ module _ {M : Type 1} (𝓤 : URA M) (H : Heap 𝓤) (A : Atoms 𝓤) (W : Given
         assigns ! (of-opd ! (load ! (from ! (fld ! refl (stop !))) (look-in ! 6 (sub ! 1 refl (whole !))))) (from ! (stop !)) (init ! 0 refl (tt, wt .1 .1 .0)) $
         move ! (10 ∷ []) $ use1 W (raw (Callee 𝓤 H A mem run .pre to) ⊛ ‵ Own) apart $ split ! $
         calls-at ! fm (Callee 𝓤 H A mem run) known to (and-then ! (load ! (from ! (stop !)) (look ! 4 refl)) (and-then ! (load ! (from ! (stop !)) (look ! 6 refl)) (and-then ! (load ! (from ! (stop !)) (look ! 2 refl)) (no-more !)))) (λ u.
-        use1 W (later (some (λ (r : Symbol). ((‵ (flft κ q) ⊛ ‵ ftrue) ⊛ ‵ (S.the-row .own r (u ∷ []))) ⊛ raw (ensured 𝓤 H A callee.ended (callee.clauses 𝓤 H A mem run) (κ, tt) (d .bytes, (i, (d .big, tt))) tt r)))) (id⊢ 𝓤 _) $ await ! tt $ pick ! (λ r.
+        use1 W (later (some (λ (r : ReadVersym). ((‵ (flft κ q) ⊛ ‵ ftrue) ⊛ ‵ (S.the-row .own r (u ∷ []))) ⊛ raw (ensured 𝓤 H A callee.ended (callee.clauses 𝓤 H A mem run) (κ, tt) (d .bytes, (i, (d .big, tt))) tt r)))) (id⊢ 𝓤 _) $ await ! tt $ pick ! (λ r.
         split ! $ move ! (1 ∷ []) $ use1 W (raw (fact 𝓤 (r ≡ found))) (said r) $ heard ! (r ≡ found) (λ e. split ! $ move ! (1 ∷ []) $
         -- [the result; the token; what the struct owns; the locals, the last first]
         peeks ! S.the-row (Is S.the-row) (shows 𝓤 H A S.the-row) r (u ∷ []) (λ is.
@@ -166,4 +166,4 @@ get-at-spec 𝓤 H 𝓜 𝓖 𝓡 =
     entered 𝓤 H (tripleOf 𝓤 H (𝓖 .A) get.signature (get.spec 𝓤 H (𝓖 .A) (𝓜 .mem) (𝓡 .run)))
     (tables 𝓤 H 𝓜 𝓡 code.env .C) (tables 𝓤 H 𝓜 𝓡 code.env .Λ) #get code.function (code.unfolded 𝓤 H 𝓜 𝓡)
     (get-meets 𝓤 H (𝓖 .A) (givenOf 𝓤 H 𝓜 𝓖) (𝓜 .mem) (𝓡 .run) (tablesOf 𝓤 H 𝓜 (tables 𝓤 H 𝓜 𝓡 code.env))
-    (cited 𝓤 H (Callee 𝓤 H (𝓖 .A) (𝓜 .mem) (𝓡 .run)) 𝓜 𝓡 code.env #callee callee-def.routine code.calls-versym·entry-in (callee-thm.met 𝓤 H 𝓜 𝓖 𝓡)))
+    (cited 𝓤 H (Callee 𝓤 H (𝓖 .A) (𝓜 .mem) (𝓡 .run)) 𝓜 𝓡 code.env #callee callee-def.routine code.calls-versym·get-at-in (callee-thm.met 𝓤 H 𝓜 𝓖 𝓡)))

@@ -1,3 +1,0 @@
--- `Operation` is the table of operations and the operation at a slot, `Answers` what each answer stands for.
-pub mod Operation
-pub mod Answers

@@ -1,2 +1,0 @@
--- `Names` has the name of each register.
-pub mod Names

@@ -1,0 +1,82 @@
+-- `runtime_lookup::tested` meets its contract. The invariant: the search among the records left goes on as the whole one does. The measure is the number of records left.
+-- Assumes nothing.
+use Prim.Native.Nat.{_-_}
+use native.Mathlib.Omega.{arith}
+use borrow.Author.Needs.{needs}
+use Rattle.runtime_table.specs.Table.{tableOf, x64}
+use Rattle.runtime_lookup.proofs.Laws.{Left, start, none-left, tested-gone, tested-read, tested-before, tested-holds, tested-after}
+use Rattle.runtime_lookup.proofs.tested.Statement.{statement}
+use Rattle.runtime_lookup.proofs.tested.Tie as tie
+
+abbrev Inv-loop : tie.InvT-loop
+Inv-loop file table count address low₀ high₀ reads₀ low high reads = Left (tableOf x64 file table) count address low high reads
+
+abbrev μ-loop : tie.MeasureT-loop
+μ-loop file table count address low₀ high₀ reads₀ low high reads = high - low
+
+loop-holds : tie.Need-loop-holds Inv-loop μ-loop
+loop-holds c = start _ _ _
+
+sub-index : tie.Need-sub-index Inv-loop μ-loop
+sub-index c = search needs
+
+add-index : tie.Need-add-index Inv-loop μ-loop
+add-index c = omega (arith, c .before .loop .inv .within)
+
+get-entry-requires : tie.Need-get-entry-requires Inv-loop μ-loop
+get-entry-requires c κs = search needs
+
+enum-known-e : tie.Need-enum-known-e Inv-loop μ-loop
+enum-known-e c = search needs
+
+add-reads : tie.Need-add-reads Inv-loop μ-loop
+add-reads c = let r = tested-read _ _ _ _ _ _ _ (c .before .before .before .before .before .loop .inv) (c .before .before .before .before .loop-test .taken) _ (omega (arith, (c .before .before .before .before .loop-test .taken))) (c .before .before .before .get-entry .ensures) (c .before .e .given .1) (c .before .before .before .before .before .before .before .pre) in omega arith
+
+loop-less : tie.Need-loop-less Inv-loop μ-loop
+loop-less c = omega (arith, (c .before .before .before .before .before .before .loop-test .taken))
+
+loop-again : tie.Need-loop-again Inv-loop μ-loop
+loop-again c = tested-before _ _ _ _ _ _ _ (c .before .before .before .before .before .before .before .loop .inv) (c .before .before .before .before .before .before .loop-test .taken) _ (omega (arith, (c .before .before .before .before .before .before .loop-test .taken))) (c .before .before .before .before .before .get-entry .ensures) (c .before .before .before .e .given .1) (c .if1 .taken)
+
+returns : tie.Need-returns Inv-loop μ-loop
+returns c = tested-holds _ _ _ _ _ _ _ (c .before .before .before .before .before .before .before .before .before .loop .inv) (c .before .before .before .before .before .before .before .before .loop-test .taken) _ (omega (arith, (c .before .before .before .before .before .before .before .before .loop-test .taken))) (c .before .before .before .before .before .before .before .get-entry .ensures) (c .before .before .before .before .before .e .given .1) (c .before .before .if1 .left) (c .if2 .taken)
+
+add-low : tie.Need-add-low Inv-loop μ-loop
+add-low c = omega (arith, (c .before .before .before .before .before .before .before .before .loop-test .taken), (c .before .before .before .before .before .before .before .before .before .loop .inv) .within)
+
+loop-less-2 : tie.Need-loop-less-2 Inv-loop μ-loop
+loop-less-2 c = omega (arith, (c .before .before .before .before .before .before .before .before .loop-test .taken))
+
+loop-again-2 : tie.Need-loop-again-2 Inv-loop μ-loop
+loop-again-2 c = tested-after _ _ _ _ _ _ _ (c .before .before .before .before .before .before .before .before .before .loop .inv) (c .before .before .before .before .before .before .before .before .loop-test .taken) _ (omega (arith, (c .before .before .before .before .before .before .before .before .loop-test .taken))) (c .before .before .before .before .before .before .before .get-entry .ensures) (c .before .before .before .before .before .e .given .1) (c .before .before .if1 .left) (c .if2 .left)
+
+enum-told : tie.Need-enum-told Inv-loop μ-loop
+enum-told c = search needs
+
+returns-2 : tie.Need-returns-2 Inv-loop μ-loop
+returns-2 c = tested-gone _ _ _ _ _ _ _ (c .before .before .before .before .loop .inv) (c .before .before .before .loop-test .taken) _ (omega (arith, (c .before .before .before .loop-test .taken))) (c .before .before .get-entry .ensures) (c .enum-told .given .1)
+
+returns-3 : tie.Need-returns-3 Inv-loop μ-loop
+returns-3 c = none-left _ _ _ _ _ _ (c .before .loop .inv) (c .loop-test .left)
+
+pub tested-spec : {M : Type 1} → statement M
+tested-spec =
+    tie.close
+    (tie.spec
+    Inv-loop
+    μ-loop
+    loop-holds
+    sub-index
+    add-index
+    get-entry-requires
+    enum-known-e
+    add-reads
+    loop-less
+    loop-again
+    returns
+    add-low
+    loop-less-2
+    loop-again-2
+    enum-told
+    returns-2
+    returns-3)
