@@ -8,7 +8,7 @@ NAME = 'exception'
 DOORS = ['exceptions', 'record', 'lookup', 'lookup_reads', 'lookup_checked', 'table_check']
 
 
-# Document 01's answers.
+# The answers of docs/SPEC.md.
 
 def halving(data, table, count, address):
     """The refusal, or the record with its index and the number of records read."""

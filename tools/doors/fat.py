@@ -19,7 +19,7 @@ def word(data, at):
 
 
 def opened(data):
-    """Document 01's answer to opening: the refusal's number, or the members."""
+    """The answer of docs/SPEC.md to opening: the refusal's number, or the members."""
     if word(data, 0) is None:
         return 1
     if word(data, 0) != MAGIC:

@@ -9,7 +9,7 @@ DOORS = ['slots', 'record_at', 'info_of', 'link_of', 'all_codes', 'scopes_at', '
 LIMIT = 32
 
 
-# Document 01's answers.
+# The answers of docs/SPEC.md.
 
 def slots(data, at):
     info = unwind.unwind(data, at)
@@ -110,9 +110,7 @@ def scope_at(data, at, index):
 
 def expected(line):
     door, numbers, data = taken(line)
-    # the alignment, the record and the address have 32 bits
-    low = {'record_at': range(2, 4), 'info_of': range(2, 6), 'link_of': range(2, 6), 'all_codes': range(2, 6)}.get(door, ())
-    return globals()[door](data, *(n % 2 ** 32 if i in low else n for i, n in enumerate(numbers)))
+    return globals()[door](data, *numbers)
 
 
 # Where goblin answers otherwise.
@@ -271,8 +269,6 @@ def one(rng):
         return f'{door} {rng.choice([0] * 9 + [1])}{f" {around(rng, 0, n)}" if door == "scope_at" else ""} {hexed(data)}'
     address = rng.choice(addresses) + rng.choice([0, 0, 1]) if rng.random() < 0.95 else rng.getrandbits(32)
     sections = f'{0 if rng.random() < 0.97 else around(rng, 0, len(data))} {rng.choice([1] * 20 + [0, 2, 97])} {rng.choice([512] * 20 + [1, 4096, 3])}'
-    if rng.random() < 0.02:
-        address += 2 ** 32
     if door == 'record_at':
         return f'record_at {sections} {address} {hexed(data)}'
     index = '' if door == 'all_codes' else f' {rng.choice([0, 0, 1, 2, 3, 31, 33])}'

@@ -29,10 +29,10 @@ def readable(fields, alignment):
 
 
 def mapped(data, table, count, alignment, address):
-    """Document 01's answer, and the rows that were looked at."""
+    """The answer of docs/SPEC.md, and the rows that were looked at."""
     if count > LIMIT:
         return 'no 3', []
-    if alignment == 0 or alignment & (alignment - 1):
+    if alignment == 0 or alignment & (alignment - 1) or alignment >= 2 ** 32:
         return 'no 5', []
     seen = []
     for i in range(count):

@@ -7,7 +7,7 @@ NAME = 'unwind_info'
 DOORS = ['unwind', 'codes', 'code', 'scopes', 'scope', 'scope_put', 'register']
 
 
-# Document 01's answers.
+# The answers of docs/SPEC.md.
 
 def head(data, at):
     """The refusal's number, or (version, flags, prolog, slots, register, offset, where what follows the codes stands)."""

@@ -2,7 +2,10 @@
 -- Assumes nothing.
 use mathlib.Core.Path.{_≡_, sym, _∙_}
 use mathlib.Core.List.{List}
-use Prim.Native.Nat.{ℕ}
+use Prim.Native.Nat.{ℕ, _+_}
+use Rattle.answer.specs.declared.Reason.{Reason}
+use Rattle.answer.specs.declared.Refusal.{Refusal}
+use Rattle.answer.specs.Answer.{refuseOf, cutOf, beyondOf, numberOf}
 use Rattle.answer.specs.Words.{wordsOf}
 
 -- of an answer
@@ -15,3 +18,15 @@ same-both e f = (same (e .0) (f .0), same (e .1) (f .1))
 
 pub words-unique : (n : ℕ) {r q : List ℕ} → r ≡ wordsOf n → q ≡ wordsOf n → r ≡ q
 words-unique n = same
+
+pub refuse-unique : (why : Reason) {r q : Refusal} → r ≡ refuseOf why → q ≡ refuseOf why → r ≡ q
+refuse-unique why = same
+
+pub cut-unique : (at width : ℕ) {r q : Refusal} → r ≡ cutOf (at + width) → q ≡ cutOf (at + width) → r ≡ q
+cut-unique at width = same
+
+pub beyond-unique : {r q : Refusal} → r ≡ beyondOf → q ≡ beyondOf → r ≡ q
+beyond-unique = same
+
+pub number-unique : (k : Refusal) {r q : ℕ} → r ≡ numberOf k → q ≡ numberOf k → r ≡ q
+number-unique k = same

@@ -38,6 +38,6 @@ padded zero t = []
 padded (suc w) end = 32 ∷ padded w end
 padded (suc w) (c then t) = code c ∷ padded w t
 
--- the row for an answer
+-- 2.6: the row for an answer
 unfoldable pub wordsOf : ℕ → List ℕ
 wordsOf n = padded 64 (textAt "no such answer" texts n)

@@ -1,48 +1,89 @@
-// The answers of every door: their numbers, the refusal that carries one, and the words for each.
+// The answers of every door: why one refuses, the refusal that readers hand on unchanged, and the words for each number.
 ghost use mathlib.Core.Path.{_≡_};
+ghost use Prim.Native.Nat.{_+_};
+ghost use Rattle.answer.specs.Answer.{refuseOf, cutOf, beyondOf, numberOf};
 ghost use Rattle.answer.specs.Words.{wordsOf};
 
-// Why a reader refused: one of the numbers below, never 0. Readers pass it on unchanged.
-pub struct Refusal {
-    pub number: u8,
+// Why a door refuses. The number of each is its place in this list, from 1 on.
+pub enum Reason {
+    Short,
+    Magic,
+    Limit,
+    Contradiction,
+    NoSection,
+    Version,
+    Operation,
+    Links,
+    Order,
+    NotFound,
+    NotStrict,
+    Stack,
+    Room,
+    PastFile,
+    Machine,
 }
 
-pub const ACCEPTED: u8 = 0;
-
-pub const SHORT: u8 = 1;
-
-pub const MAGIC: u8 = 2;
-
-pub const LIMIT: u8 = 3;
-
-pub const CONTRADICTION: u8 = 4;
-
-pub const NO_SECTION: u8 = 5;
-
-pub const VERSION: u8 = 6;
-
-pub const OPERATION: u8 = 7;
-
-pub const LINKS: u8 = 8;
-
-pub const ORDER: u8 = 9;
-
-pub const NOT_FOUND: u8 = 10;
-
-pub const NOT_STRICT: u8 = 11;
-
-pub const STACK: u8 = 12;
-
-pub const ROOM: u8 = 13;
-
-pub const PAST_FILE: u8 = 14;
-
-pub const MACHINE: u8 = 15;
+// What a door that refuses hands back. It has no number 0: that is the number of what is accepted.
+pub struct Refusal {
+    pub reason: Reason,
+}
 
 // The longest file that a door takes, in bytes.
-pub const FILE_LIMIT: usize = 268435456;
+pub const FILE_LIMIT: usize = 268_435_456;
+
+const LAST: usize = 0xFFFF_FFFF_FFFF_FFFF;
 
 const ANSWERS: usize = 16;
+
+// Every refusal is made here, but for those of missing bytes.
+pub fn refuse(reason: Reason) -> Refusal
+    ensures { λ r. ⌜ r ≡ refuseOf reason ⌝ }
+{
+    Refusal { reason }
+}
+
+// The refusal where the bytes end before a field of `width` bytes at `at` does.
+pub fn cut(at: usize, width: usize) -> Refusal
+    ensures { λ r. ⌜ r ≡ cutOf (at + width) ⌝ }
+{
+    if LAST - width < at {
+        return beyond();
+    }
+    Refusal {
+        reason: Reason::Short,
+    }
+}
+
+// The refusal where something is missing that no more bytes would bring: a field past 64 bits, or slots past their count.
+pub fn beyond() -> Refusal
+    ensures { λ r. ⌜ r ≡ beyondOf ⌝ }
+{
+    refuse(Reason::Short)
+}
+
+// The number of a refusal, never 0.
+pub fn number(refusal: Refusal) -> u8
+    ensures { λ r. ⌜ r ≡ numberOf refusal ⌝ }
+{
+    let reason = refusal.reason;
+    match reason {
+        Reason::Short => 1,
+        Reason::Magic => 2,
+        Reason::Limit => 3,
+        Reason::Contradiction => 4,
+        Reason::NoSection => 5,
+        Reason::Version => 6,
+        Reason::Operation => 7,
+        Reason::Links => 8,
+        Reason::Order => 9,
+        Reason::NotFound => 10,
+        Reason::NotStrict => 11,
+        Reason::Stack => 12,
+        Reason::Room => 13,
+        Reason::PastFile => 14,
+        Reason::Machine => 15,
+    }
+}
 
 // The words for a number, filled up with spaces; for a number above the last, the row after it.
 pub fn words(number: u8) -> [u8; 64]

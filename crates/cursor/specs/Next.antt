@@ -1,4 +1,4 @@
--- What reading a number at a cursor answers: the number with the cursor past it, or the refusal of the field.
+-- What reading a number at a cursor answers: the number with the cursor after it, or the refusal of the field.
 -- Assumes nothing.
 use Prim.Native.Nat.{ℕ, _+_}
 use mathlib.Core.List.{List}
@@ -7,30 +7,30 @@ use Rattle.answer.specs.declared.Refusal.{Refusal}
 use Rattle.fields.specs.Field.{readOf}
 use Rattle.cursor.specs.declared.Cursor.{Cursor}
 use Rattle.cursor.specs.declared.NextU8.{NextU8}
-use Rattle.cursor.specs.declared.NextU8.the-variants as byte
+use Rattle.cursor.specs.declared.NextU8.the-variants as u8
 use Rattle.cursor.specs.declared.NextU16.{NextU16}
-use Rattle.cursor.specs.declared.NextU16.the-variants as half
+use Rattle.cursor.specs.declared.NextU16.the-variants as u16
 use Rattle.cursor.specs.declared.NextU32.{NextU32}
-use Rattle.cursor.specs.declared.NextU32.the-variants as word
+use Rattle.cursor.specs.declared.NextU32.the-variants as u32
 use Rattle.cursor.specs.declared.NextU64.{NextU64}
-use Rattle.cursor.specs.declared.NextU64.the-variants as long
+use Rattle.cursor.specs.declared.NextU64.the-variants as u64
 
--- the cursor that stands at that place
+-- 4.6: the cursor at that place
 abbrev pub newOf : ℕ → Cursor
 newOf at = record { at = at }
 
--- `w` bytes at `at`: the field, and `at + w`
+-- 4.6: the field of `w` bytes at `at`, and the cursor at `at + w`
 unfoldable pub nextOf : {A : Type 0} → (ℕ → Cursor → A) → (Refusal → A) → Bool → ℕ → List ℕ → ℕ → A
 nextOf taken refused big w s at = readOf (λ n. taken n (record { at = at + w })) refused big w s at
 
 abbrev pub takenU8 : ℕ → Cursor → NextU8
-takenU8 n k = byte.Value (record { value = n; next = k })
+takenU8 n k = u8.Value (record { value = n; next = k })
 
 abbrev pub takenU16 : ℕ → Cursor → NextU16
-takenU16 n k = half.Value (record { value = n; next = k })
+takenU16 n k = u16.Value (record { value = n; next = k })
 
 abbrev pub takenU32 : ℕ → Cursor → NextU32
-takenU32 n k = word.Value (record { value = n; next = k })
+takenU32 n k = u32.Value (record { value = n; next = k })
 
 abbrev pub takenU64 : ℕ → Cursor → NextU64
-takenU64 n k = long.Value (record { value = n; next = k })
+takenU64 n k = u64.Value (record { value = n; next = k })

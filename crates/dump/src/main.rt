@@ -25,9 +25,10 @@ fn put_file(s: &[u8], out: &mut [u8; 65536], at: usize) -> usize {
 
 // A refusal, by its number and in words.
 fn put_refusal(out: &mut [u8; 65536], at: usize, k: Refusal) -> usize {
-    let row = answer::words(k.number);
+    let number = answer::number(k);
+    let row = answer::words(number);
     let mut end = text::put(out, at, b"refused ");
-    end = text::put_decimal(out, end, k.number as u64);
+    end = text::put_decimal(out, end, number as u64);
     end = text::put(out, end, b": ");
     end = text::put_trimmed(out, end, &row);
     text::put_byte(out, end, b'\n')

@@ -1,3 +1,3 @@
--- `Exception` says what opening the exception data answers, and the record at a place; `Answers` what each answer stands for.
+-- `Exception` says what opening the exception data answers, and the record at an index; `Answers` what each answer stands for.
 pub mod Exception
 pub mod Answers

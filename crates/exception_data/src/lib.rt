@@ -1,9 +1,11 @@
-// The exception data of an image: opening it, and the record at a place of its table.
+// The exception data of an image: opening it, and the record at an index of its table.
 ghost use mathlib.Core.Path.{_≡_};
-ghost use Rattle.exception_data.specs.Exception.{given, tableIn, directoryIn, openOf, getFunctionOf};
+ghost use Rattle.exception_data.specs.Exception.{emptyOf, openOf, getFunctionOf};
+use answer::Reason;
 use answer::Refusal;
-use pe_header::Header;
+use pe_header::OpenHeader;
 use pe_mapping::FindOffset;
+use pe_mapping::Sections;
 use pe_optional::DataDirectory;
 use pe_optional::ExceptionDirectory;
 use runtime_function::ReadRuntimeFunction;
@@ -16,14 +18,12 @@ pub enum RecordForm {
     X64,
 }
 
-// An opened table, as the numbers that the doors on it take, and those that mapping takes.
+// An opened table: where it is, how many records it has, and what mapping needs.
 pub struct ExceptionData {
     pub form: RecordForm,
     pub table: usize,
     pub count: usize,
-    pub section_table: usize,
-    pub number_of_sections: usize,
-    pub file_alignment: u32,
+    pub sections: Sections,
 }
 
 pub enum OpenExceptionData {
@@ -35,102 +35,71 @@ pub fn open(file: &[u8]) -> OpenExceptionData
     ensures { λ r. ⌜ r ≡ openOf (now (file .entry)) ⌝ }
 {
     let h = match pe_header::open(file) {
-        pe_header::OpenHeader::Value(h) => h,
-        pe_header::OpenHeader::Refused(k) => return OpenExceptionData::Refused(k),
+        OpenHeader::Value(h) => h,
+        OpenHeader::Refused(k) => return OpenExceptionData::Refused(k),
     };
-    let machine = h.machine;
-    let exceptions = h.exceptions;
-    if machine == X64 {
-        match exceptions {
-            ExceptionDirectory::Given(d) => {
-                return open_directory(file, h, d);
-            }
-            ExceptionDirectory::Missing => {
-                return OpenExceptionData::Refused(Refusal {
-                    number: answer::NOT_FOUND,
-                });
-            }
-        }
+    if h.machine != X64 {
+        return OpenExceptionData::Refused(answer::refuse(Reason::Machine));
     }
-    OpenExceptionData::Refused(Refusal {
-        number: answer::MACHINE,
-    })
+    let exceptions = h.exceptions;
+    let d = match exceptions {
+        ExceptionDirectory::Given(d) => d,
+        ExceptionDirectory::Missing => {
+            return OpenExceptionData::Refused(answer::refuse(Reason::NotFound));
+        }
+    };
+    if is_empty(d) {
+        return OpenExceptionData::Refused(answer::refuse(Reason::NotFound));
+    }
+    let size = d.size as usize;
+    if size % runtime_function::SIZE != 0 {
+        return OpenExceptionData::Refused(answer::refuse(Reason::Contradiction));
+    }
+    let sections = Sections {
+        table: h.section_table,
+        count: h.number_of_sections,
+        alignment: h.file_alignment,
+    };
+    let address = d.virtual_address as u64;
+    let offset = match pe_mapping::find_offset(file, sections, address) {
+        FindOffset::Value(offset) => offset,
+        FindOffset::Refused(k) => return OpenExceptionData::Refused(k),
+    };
+    if offset % 4 != 0 {
+        return OpenExceptionData::Refused(answer::refuse(Reason::NoSection));
+    }
+    let table = offset as usize;
+    let count = size / runtime_function::SIZE;
+    match runtime_table::check(file, table, count) {
+        CheckTable::Ordered => OpenExceptionData::Value(ExceptionData {
+            form: RecordForm::X64,
+            table,
+            count,
+            sections,
+        }),
+        CheckTable::Refused(k) => OpenExceptionData::Refused(k),
+    }
 }
 
-// The record at an index of the table of `count` records at `table`.
-pub fn get_function(file: &[u8], table: usize, count: usize, index: usize) -> ReadRuntimeFunction
-    ensures { λ r. ⌜ r ≡ getFunctionOf (now (file .entry)) table count index ⌝ }
+// The record at an index of an opened table.
+pub fn get_function(file: &[u8], opened: ExceptionData, index: usize) -> ReadRuntimeFunction
+    ensures { λ r. ⌜ r ≡ getFunctionOf (now (file .entry)) opened index ⌝ }
 {
     if answer::FILE_LIMIT < file.len() {
-        return ReadRuntimeFunction::Refused(Refusal {
-            number: answer::LIMIT,
-        });
+        return ReadRuntimeFunction::Refused(answer::refuse(Reason::Limit));
     }
-    if index < count {
-        return runtime_table::get_entry(file, table, index);
+    if index < opened.count {
+        return runtime_table::get_entry(file, opened.table, index);
     }
-    ReadRuntimeFunction::Refused(Refusal {
-        number: answer::NOT_FOUND,
-    })
+    ReadRuntimeFunction::Refused(answer::refuse(Reason::NotFound))
 }
 
-fn open_directory(file: &[u8], h: Header, d: DataDirectory) -> OpenExceptionData
-    ensures { λ r. ⌜ r ≡ directoryIn (now (file .entry)) h d ⌝ }
-{
-    if is_given(d) {
-        let size = d.size as usize;
-        if size % runtime_function::SIZE == 0 {
-            let address = d.virtual_address as u64;
-            return match pe_mapping::find_offset(
-                file,
-                h.section_table,
-                h.number_of_sections,
-                h.file_alignment,
-                address,
-            ) {
-                FindOffset::Value(offset) => open_table(file, h, d, offset),
-                FindOffset::Refused(k) => OpenExceptionData::Refused(k),
-            };
-        }
-        return OpenExceptionData::Refused(Refusal {
-            number: answer::CONTRADICTION,
-        });
-    }
-    OpenExceptionData::Refused(Refusal {
-        number: answer::NOT_FOUND,
-    })
-}
-
-// Whether the header names a directory at all.
-fn is_given(d: DataDirectory) -> bool
-    ensures { λ r. ⌜ r ≡ given d ⌝ }
+// Whether the directory's address and size are both 0.
+fn is_empty(d: DataDirectory) -> bool
+    ensures { λ r. ⌜ r ≡ emptyOf d ⌝ }
 {
     if d.virtual_address == 0 {
-        return 0 < d.size;
+        return d.size == 0;
     }
-    true
-}
-
-fn open_table(file: &[u8], h: Header, d: DataDirectory, offset: u64) -> OpenExceptionData
-    ensures { λ r. ⌜ r ≡ tableIn (now (file .entry)) h d offset ⌝ }
-{
-    if offset % 4 == 0 {
-        let table = offset as usize;
-        let size = d.size as usize;
-        let count = size / runtime_function::SIZE;
-        return match runtime_table::check(file, table, count) {
-            CheckTable::Ordered => OpenExceptionData::Value(ExceptionData {
-                form: RecordForm::X64,
-                table,
-                count,
-                section_table: h.section_table,
-                number_of_sections: h.number_of_sections,
-                file_alignment: h.file_alignment,
-            }),
-            CheckTable::Refused(k) => OpenExceptionData::Refused(k),
-        };
-    }
-    OpenExceptionData::Refused(Refusal {
-        number: answer::NO_SECTION,
-    })
+    false
 }

@@ -16,16 +16,17 @@ use Rattle.answer.specs.declared.Refusal.{Refusal}
 use Rattle.answer.proofs.Laws.{must-on, must-off}
 use Rattle.fields.specs.Number.{numberAt}
 use Rattle.fields.proofs.Laws.{Missed, le-or-lt}
-use Rattle.layout.specs.Layout.{Field, numbersAt}
+use Rattle.layout.specs.Layout.{Field, bytesIn, numbersAt}
 use Rattle.layout.proofs.Laws.{missed-at, full-is}
 use Rattle.layout.proofs.Theorems.{reads}
-use Rattle.fat_member.specs.Fields.{bytesIn}
 use Rattle.fat_member.specs.FatArch.{fatArch, readOf, Inside}
+use Rattle.fat_member.specs.Answers.{onReadFatArch}
 use Rattle.fat_member.specs.declared.FatArch.{FatArch}
 use Rattle.fat_member.specs.declared.ReadFatArch.{ReadFatArch}
 use Rattle.fat_member.specs.declared.ReadFatArch.the-variants as found
 use Rattle.fat_member.proofs.Laws.{told-must, told-reads, member-inside}
-use Rattle.fat.specs.Fat.{fatMagic, memberLimit, headerIn, Held, members, refused, more, onFound, onCount, membersAt, heldIn, countOf, openOf, nth, nthOf, memberAtOf, bytesAtOf, startOf}
+use Rattle.fat.specs.Fat.{fatMagic, memberLimit, headerIn, Held, members, refused, more, membersAt, heldIn, countOf, openOf, nth, nthOf, memberAtOf, bytesAtOf, startOf}
+use Rattle.fat.specs.Answers.{onOpenFat}
 use Rattle.fat.proofs.Terms.{Header, There}
 use Rattle.fat.specs.declared.OpenFat.{OpenFat}
 use Rattle.fat.specs.declared.OpenFat.the-variants as opened
@@ -43,7 +44,8 @@ module _ (s : List ℕ) where
         must-on opened.Refused _ limit _ (le-leb (length s) fileLimit short)
         (missed-at true (4 ∷ []) 0 (omega arith) _ opened.Refused s 0 i m (omega arith) (λ z. omega arith))
 
-    pub header-other : {q : Refusal} → 4 ≤ length s → (numberAt true 4 s 0 ≡ fatMagic → ⊥) → q ≡ refuseOf magic → opened.Refused q ≡ headerIn s
+    pub header-other : {q : Refusal} → 4 ≤ length s → (numberAt true 4 s 0 ≡ fatMagic → ⊥) → q ≡ refuseOf magic
+        → opened.Refused q ≡ headerIn s
     unfolding headerIn numbersAt
     header-other h n e =
         must-on opened.Refused _ limit _ (le-leb (length s) fileLimit short)
@@ -59,7 +61,8 @@ module _ (s : List ℕ) where
           (must-on opened.Refused _ magic _ (eq-eqb (numberAt true 4 s 0) fatMagic right)
           (missed-at true (4 ∷ []) 0 (omega arith) _ opened.Refused s 4 i m (omega arith) (λ z. omega arith))))
 
-      pub header-many : {q : Refusal} → 8 ≤ length s → memberLimit < numberAt true 4 s 4 → q ≡ refuseOf limit → opened.Refused q ≡ headerIn s
+      pub header-many : {q : Refusal} → 8 ≤ length s → memberLimit < numberAt true 4 s 4 → q ≡ refuseOf limit
+          → opened.Refused q ≡ headerIn s
       unfolding headerIn numbersAt
       header-many h n e =
           must-on opened.Refused _ limit _ (le-leb (length s) fileLimit short)
@@ -115,7 +118,8 @@ count-more : (n : ℕ) (m : FatArch) (h : Held) → countOf h ≡ counted n h �
 count-more n m (members ms) e = let l : length ms ≡ n = cc in rw l
 count-more n m (refused k) e = refl
 
-count-found : (n : ℕ) (f : ReadFatArch) (h : Held) → countOf h ≡ counted n h → countOf (onFound f (λ m. more m h)) ≡ counted (suc n) (onFound f (λ m. more m h))
+count-found : (n : ℕ) (f : ReadFatArch) (h : Held) → countOf h ≡ counted n h
+    → countOf (onReadFatArch f refused (λ m. more m h)) ≡ counted (suc n) (onReadFatArch f refused (λ m. more m h))
 count-found n (found.Value m) h e = count-more n m h e
 count-found n (found.Refused k) h e = refl
 
@@ -125,12 +129,15 @@ module _ (arch : List Field) (s : List ℕ) where
   count-members zero at = refl
   count-members (suc n) at = count-found n (readOf arch s at) (membersAt arch n s (at + bytesIn arch)) (count-members n (at + bytesIn arch))
 
-  pub members-on : (n : ℕ) (at : ℕ) (c : ℕ) {m : FatArch} → 0 < n → found.Value m ≡ readOf arch s at → counted c (membersAt arch n s at) ≡ counted c (membersAt arch (n - 1) s (at + bytesIn arch))
+  pub members-on : (n : ℕ) (at : ℕ) (c : ℕ) {m : FatArch} → 0 < n → found.Value m ≡ readOf arch s at
+      → counted c (membersAt arch n s at) ≡ counted c (membersAt arch (n - 1) s (at + bytesIn arch))
   unfolding membersAt
   members-on zero at c h e = absurd (not-suc-le-zero h)
-  members-on (suc n) at c {m} h e = let p : suc n - 1 ≡ n = omega arith in rw (← e, p) (counted-more c m (membersAt arch n s (at + bytesIn arch)))
+  members-on (suc n) at c {m} h e = let p : suc n - 1 ≡ n = omega arith in rw (← e, p)
+      (counted-more c m (membersAt arch n s (at + bytesIn arch)))
 
-  pub members-stop : (n : ℕ) (at : ℕ) (c : ℕ) {k : Refusal} → 0 < n → found.Refused k ≡ readOf arch s at → counted c (membersAt arch n s at) ≡ opened.Refused k
+  pub members-stop : (n : ℕ) (at : ℕ) (c : ℕ) {k : Refusal} → 0 < n → found.Refused k ≡ readOf arch s at
+      → counted c (membersAt arch n s at) ≡ opened.Refused k
   unfolding membersAt
   members-stop zero at c h e = absurd (not-suc-le-zero h)
   members-stop (suc n) at c h e = rw (← e)
@@ -141,7 +148,8 @@ module _ (arch : List Field) (s : List ℕ) where
   members-none (suc n) at c h = absurd (not-suc-le-zero h)
 
 -- after `i` accepted members, the answer is that of the others
-members-after : (arch : List Field) (s : List ℕ) (i n at c : ℕ) → i ≤ n → ((j : ℕ) → j < i → There (readOf arch s (at + j * bytesIn arch))) → counted c (membersAt arch n s at) ≡ counted c (membersAt arch (n - i) s (at + i * bytesIn arch))
+members-after : (arch : List Field) (s : List ℕ) (i n at c : ℕ) → i ≤ n → ((j : ℕ) → j < i → There (readOf arch s (at + j * bytesIn arch)))
+    → counted c (membersAt arch n s at) ≡ counted c (membersAt arch (n - i) s (at + i * bytesIn arch))
 members-after arch s zero n at c h g =
     let e : n - 0 ≡ n = omega arith in
     let d : at + 0 * bytesIn arch ≡ at = omega arith in
@@ -165,21 +173,26 @@ first-of-more : (m : FatArch) (h : Held) {ms : List FatArch} → members ms ≡ 
 first-of-more m (members os) e = record { first = m; others = os; found-first = refl; held-others = refl; all = cc }
 first-of-more m (refused k) e = absurd (let z : _≡_ {A = ℕ} 0 1 = cc in omega arith)
 
-first-of : (f : ReadFatArch) (h : Held) {ms : List FatArch} → members ms ≡ onFound f (λ m. more m h) → First f h ms
+first-of : (f : ReadFatArch) (h : Held) {ms : List FatArch} → members ms ≡ onReadFatArch f refused (λ m. more m h) → First f h ms
 first-of (found.Value m) h e = first-of-more m h e
 first-of (found.Refused k) h e = absurd (let z : _≡_ {A = ℕ} 0 1 = cc in omega arith)
 
--- a member of the list is the one that stands at its place
-nth-first : (arch : List Field) (s : List ℕ) (at : ℕ) {h : Held} {ms : List FatArch} (i : ℕ) → (r : First (readOf arch s at) h ms) → i < length ms → ((j : ℕ) → members (r .others) ≡ h → j < length (r .others) → readOf arch s (at + bytesIn arch + j * bytesIn arch) ≡ nth (r .others) j) → readOf arch s (at + i * bytesIn arch) ≡ nth ms i
+-- a member of the list is the one that is at its place
+nth-first : (arch : List Field) (s : List ℕ) (at : ℕ) {h : Held} {ms : List FatArch} (i : ℕ) → (r : First (readOf arch s at) h ms) → i <
+    length ms →
+    ((j : ℕ) → members (r .others) ≡ h → j < length (r .others) → readOf arch s (at + bytesIn arch + j * bytesIn arch) ≡ nth (r .others) j)
+    → readOf arch s (at + i * bytesIn arch) ≡ nth ms i
 nth-first arch s at zero r l more = let e : at + 0 * bytesIn arch ≡ at = omega arith in rw (e, r .all) (r .found-first)
 nth-first arch s at (suc j) r l more =
     let e : at + suc j * bytesIn arch ≡ at + bytesIn arch + j * bytesIn arch = omega arith in
     rw (e, r .all) (more j (r .held-others) (le-of-suc-le-suc (rw (r .all) at l)))
 
-nth-go : (arch : List Field) (s : List ℕ) (n at : ℕ) {ms : List FatArch} (i : ℕ) → members ms ≡ membersAt arch n s at → i < length ms → readOf arch s (at + i * bytesIn arch) ≡ nth ms i
+nth-go : (arch : List Field) (s : List ℕ) (n at : ℕ) {ms : List FatArch} (i : ℕ) → members ms ≡ membersAt arch n s at → i < length ms
+    → readOf arch s (at + i * bytesIn arch) ≡ nth ms i
 unfolding membersAt
 nth-go arch s zero at {ms} i e h = let k : ms ≡ [] = cc in let l : i < 0 = rw k at h in absurd (not-suc-le-zero l)
-nth-go arch s (suc n) at {ms} i e h = nth-first arch s at i (first-of (readOf arch s at) (membersAt arch n s (at + bytesIn arch)) e) h (λ j. nth-go arch s n (at + bytesIn arch) j)
+nth-go arch s (suc n) at {ms} i e h = nth-first arch s at i (first-of (readOf arch s at) (membersAt arch n s (at + bytesIn arch)) e) h
+    (λ j. nth-go arch s n (at + bytesIn arch) j)
 
 nth-past : (ms : List FatArch) (i : ℕ) → length ms ≤ i → found.Refused (refuseOf notFound) ≡ nth ms i
 nth-past [] i h = refl
@@ -191,7 +204,7 @@ nth-there [] i h = absurd (not-suc-le-zero h)
 nth-there (m ∷ ms) zero h = record { member = m; is = refl }
 nth-there (m ∷ ms) (suc i) h = nth-there ms i (le-of-suc-le-suc h)
 
--- what an accepting answer says of the list behind it
+-- what an accepting answer says of the list that it counts
 pub record Listed (h : Held) (n : ℕ) : Type 0 where
   pub list : List FatArch
   pub held : members list ≡ h
@@ -211,7 +224,7 @@ record Headed (o : OpenFat) (on : ℕ → Held) (ms : List FatArch) : Type 0 whe
   pub header : o ≡ opened.Value count
   pub held : members ms ≡ on count
 
-headed-of : (o : OpenFat) (on : ℕ → Held) {ms : List FatArch} → members ms ≡ onCount o on → Headed o on ms
+headed-of : (o : OpenFat) (on : ℕ → Held) {ms : List FatArch} → members ms ≡ onOpenFat o refused on → Headed o on ms
 headed-of (opened.Value n) on e = record { count = n; header = refl; held = e }
 headed-of (opened.Refused k) on e = absurd (let z : _≡_ {A = ℕ} 0 1 = cc in omega arith)
 
@@ -239,10 +252,12 @@ module _ (s : List ℕ) where
   -- the first member that is refused is the answer; if there is none, it is the count
   module _ {n : ℕ} (e : opened.Value n ≡ headerIn s) (i : ℕ) (g : (j : ℕ) → j < i → There (readOf fatArch s (8 + j * 20))) where
     pub opened-stop : {k : Refusal} → i < n → found.Refused k ≡ readOf fatArch s (8 + i * 20) → opened.Refused k ≡ openOf s
-    opened-stop h r = opened-members e (sym (members-after fatArch s i n 8 n (omega arith) g ∙ members-stop fatArch s (n - i) (8 + i * 20) n (omega arith) r))
+    opened-stop h r = opened-members e
+        (sym (members-after fatArch s i n 8 n (omega arith) g ∙ members-stop fatArch s (n - i) (8 + i * 20) n (omega arith) r))
 
     pub opened-all : i ≡ n → opened.Value n ≡ openOf s
-    opened-all h = opened-members e (sym (members-after fatArch s i n 8 n (omega arith) g ∙ members-none fatArch s (n - i) (8 + i * 20) n (omega arith)))
+    opened-all h = opened-members e
+        (sym (members-after fatArch s i n 8 n (omega arith) g ∙ members-none fatArch s (n - i) (8 + i * 20) n (omega arith)))
 
   pub listed-in : {n : ℕ} → opened.Value n ≡ openOf s → Listed (heldIn s) n
   unfolding openOf
@@ -262,7 +277,8 @@ module _ (s : List ℕ) where
   unfolding memberAtOf
   found-of i e = rw (← e)
 
-  pub found-at : {n : ℕ} (i at : ℕ) {x : ReadFatArch} → opened.Value n ≡ openOf s → i < n → at ≡ 8 + 20 * i → x ≡ readOf fatArch s at → x ≡ memberAtOf s i
+  pub found-at : {n : ℕ} (i at : ℕ) {x : ReadFatArch} → opened.Value n ≡ openOf s → i < n → at ≡ 8 + 20 * i → x ≡ readOf fatArch s at
+      → x ≡ memberAtOf s i
   found-at i at e h p f =
       let l = listed-in e in
       let q : at ≡ 8 + i * 20 = omega arith in
@@ -274,7 +290,8 @@ module _ (s : List ℕ) where
       let k : i < length (l .list) = rw (l .many) at h in
       rw (listed-at i (l .held) k) (nth-there (l .list) i k)
 
-  pub found-past : {n : ℕ} (i : ℕ) {q : Refusal} → opened.Value n ≡ openOf s → n ≤ i → q ≡ refuseOf notFound → found.Refused q ≡ memberAtOf s i
+  pub found-past : {n : ℕ} (i : ℕ) {q : Refusal} → opened.Value n ≡ openOf s → n ≤ i → q ≡ refuseOf notFound
+      → found.Refused q ≡ memberAtOf s i
   found-past i e h f =
       let l = listed-in e in
       rw f (nth-past (l .list) i (rw (l .many) at h) ∙ found-of i (l .held))
@@ -282,7 +299,8 @@ module _ (s : List ℕ) where
 nth-inside : (s : List ℕ) (ms : List FatArch) (i : ℕ) → (i < length ms → Inside s (nth ms i)) → Inside s (nth ms i)
 nth-inside s ms i h = ⊎-elim (λ l. rw (← nth-past ms i l) tt) h (le-or-lt (length ms) i)
 
-held-inside : (s : List ℕ) (h : Held) (i : ℕ) → ((ms : List FatArch) → members ms ≡ h → i < length ms → Inside s (nth ms i)) → Inside s (nthOf h i)
+held-inside : (s : List ℕ) (h : Held) (i : ℕ) → ((ms : List FatArch) → members ms ≡ h → i < length ms → Inside s (nth ms i))
+    → Inside s (nthOf h i)
 held-inside s (members ms) i f = nth-inside s ms i (f ms refl)
 held-inside s (refused k) i f = tt
 
@@ -295,7 +313,8 @@ inside-is s is h = rw is at h
 
 -- The part that an answer names, of the file at `p`.
 module _ (s : List ℕ) (p : ℕ × ℕ) {f : ReadFatArch} where
-  pub part-is : {m : FatArch} → f ≡ found.Value m → (take (m .offset + m .size - m .offset) (drop (m .offset) s) ≡ bytesAtOf s f) × ((p .0, m .offset + p .1) ≡ startOf p f)
+  pub part-is : {m : FatArch} → f ≡ found.Value m
+      → (take (m .offset + m .size - m .offset) (drop (m .offset) s) ≡ bytesAtOf s f) × ((p .0, m .offset + p .1) ≡ startOf p f)
   part-is {m} is =
       let e : m .offset + m .size - m .offset ≡ m .size = omega arith in
       let d : m .offset + p .1 ≡ p .1 + m .offset = omega arith in

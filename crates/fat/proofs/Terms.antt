@@ -26,7 +26,7 @@ pub record There (f : ReadFatArch) : Type 0 where
   pub member : FatArch
   pub is : Value member ≡ f
 
--- where the member with that index stands
+-- where the fat_arch of that index is
 abbrev pub rowAt : ℕ → ℕ
 rowAt i = 8 + i * 20
 

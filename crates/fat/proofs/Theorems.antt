@@ -3,32 +3,35 @@
 use mathlib.Core.Path.{_≡_, refl, sym}
 use mathlib.Core.List.{List, _++_, append-assoc}
 use mathlib.Core.Bool.{true}
-use Prim.Native.Nat.{ℕ, suc, _+_, _≤_, _<_}
+use mathlib.Core.Logic.{⊎-elim}
+use Prim.Native.Nat.{ℕ, _+_, _*_, _≤_, _<_}
 use native.Mathlib.Nat.{not-suc-le-zero}
 use native.Mathlib.Omega.{arith}
 use lib.Dec.{T}
 use lib.ListN.{length, getD, take, drop, length-take, length-drop, take-append-drop}
 use lib.Seq.{drop-drop, getD-take, getD-drop}
 use denote.Ref.{now}
-use Rattle.answer.specs.Answer.{refuseOf, limit, notFound, pastFile}
+use Rattle.answer.specs.Answer.{values, refuseOf, limit, notFound, pastFile}
 use Rattle.answer.specs.Test.{fileLimit}
 use Rattle.answer.specs.declared.Refusal.{Refusal}
 use Rattle.answer.proofs.Unique.{same}
 use Rattle.fields.specs.Number.{numberAt}
+use Rattle.fields.proofs.Laws.{le-or-lt}
 use Rattle.layout.specs.Layout.{placed}
-use Rattle.fat_member.specs.FatArch.{fatArch, archOf, readOf}
+use Rattle.fat_member.specs.FatArch.{fatArch, readOf}
 use Rattle.fat_member.specs.declared.FatArch.{FatArch}
 use Rattle.fat_member.specs.declared.ReadFatArch.{ReadFatArch}
-use Rattle.fat_member.specs.declared.ReadFatArch.the-variants as found
-use Rattle.fat_member.proofs.Theorems.{fieldsAt, endAt, end-at-length, end-past}
+use Rattle.fat_member.specs.declared.ReadFatArch.the-variants as arch
+use Rattle.fat_member.proofs.Theorems.{endAt, whole-accepted, end-past}
 use Rattle.fat.specs.Fat.{fatHeader, fatMagic, openOf, memberAtOf, bytesAtOf, startOf}
+use Rattle.fat.specs.Answers.{answerOpenFat, countOpenFat}
 use Rattle.fat.specs.declared.OpenFat.{OpenFat}
 use Rattle.fat.specs.declared.OpenFat.the-variants.{Value, Refused}
 use Rattle.fat.specs.declared.FatArchBytes.{FatArchBytes}
 use Rattle.fat.proofs.Terms.{Header, There, rowAt, Good}
-use Rattle.fat.proofs.Laws.{header-count, header-many, header-told, opened-header, opened-refused, opened-stop, opened-all, found-refused, found-at, found-there, found-past, found-inside, inside-is}
+use Rattle.fat.proofs.Laws.{header-long, header-count, header-many, header-told, opened-header, opened-refused, opened-stop, opened-all, found-refused, found-at, found-there, found-past, found-inside, inside-is}
 
--- Each field of the header stands where the one before it ends.
+-- Each field of the header is where the one before it ends.
 pub fields-placed : T (placed 0 fatHeader)
 fields-placed = tt
 
@@ -40,56 +43,63 @@ good-opened s n h g = opened-all s (header-count s (h .short) (h .right) (h .roo
 pub opened-good : (s : List ℕ) (n : ℕ) → Value n ≡ openOf s → Header s n × ((i : ℕ) → i < n → Good s i)
 opened-good s n e = (header-told s n (opened-header s e), λ i h. found-there s i e h)
 
--- The first member that is refused is the answer: those behind it are not looked at.
-pub first-refusal : (s : List ℕ) (n i : ℕ) (k : Refusal) → Header s n → i < n → ((j : ℕ) → j < i → Good s j) → found.Refused k ≡ readOf fatArch s (rowAt i) → Refused k ≡ openOf s
+-- The first member that is refused is the answer: those after it are not looked at.
+pub first-refusal : (s : List ℕ) (n i : ℕ) (k : Refusal) → Header s n → i < n → ((j : ℕ) → j < i → Good s j)
+    → arch.Refused k ≡ readOf fatArch s (rowAt i) → Refused k ≡ openOf s
 first-refusal s n i k h l g r = opened-stop s (header-count s (h .short) (h .right) (h .room) (h .few) (h .count)) i g l r
 
 -- Count 0 is accepted, whatever follows.
 pub none-accepted : (s : List ℕ) → Header s 0 → openOf s ≡ Value 0
 none-accepted s h = sym (good-opened s 0 h (λ i l. absurd (not-suc-le-zero l)))
 
--- Every count from 33 up is 3, whatever follows.
-pub many-refused : (s : List ℕ) → length s ≤ fileLimit → 8 ≤ length s → numberAt true 4 s 0 ≡ fatMagic → 33 ≤ numberAt true 4 s 4 → openOf s ≡ Refused (refuseOf limit)
-many-refused s h r m n = sym (opened-refused s (header-many s h m r (omega arith) refl))
+-- A file whose fat_archs are all there, and whose members end at its length or before, opens.
+pub within-opened : (s : List ℕ) (n : ℕ) → Header s n → 8 + 20 * n ≤ length s → ((i : ℕ) → i < n → endAt s (rowAt i) ≤ length s)
+    → openOf s ≡ Value n
+within-opened s n h r e =
+    sym (good-opened s n h (λ i l. record { member = _; is = sym (whole-accepted s (rowAt i) (omega arith) (e i l)) }))
 
--- A Java class file has the same magic, and a second word of 45 and up. No such file is listed: it does not open, and it shows no
--- member.
-pub java-never : (s : List ℕ) (n : ℕ) → 45 ≤ numberAt true 4 s 4 → Value n ≡ openOf s → ⊥
-java-never s n h e = let k = opened-good s n e .0 in omega arith
+-- The first member that ends after the file, by a byte or more, is 14 in every door, whichever member is asked for: it is never shown as
+-- an empty one. What follows its size need not be there.
+module _ (s : List ℕ) (n i : ℕ) (h : Header s n) (l : i < n) (g : (j : ℕ) → j < i → Good s j) (r : rowAt i + 16 ≤ length s)
+    (past : length s < endAt s (rowAt i)) where
+  pub past-refused : openOf s ≡ Refused (refuseOf pastFile)
+  past-refused = sym (first-refusal s n i (refuseOf pastFile) h l g (sym (end-past s (rowAt i) r past)))
 
-pub java-refused : (s : List ℕ) (i : ℕ) → length s ≤ fileLimit → 8 ≤ length s → numberAt true 4 s 0 ≡ fatMagic → 45 ≤ numberAt true 4 s 4 → memberAtOf s i ≡ found.Refused (refuseOf limit)
-java-refused s i h r m n = sym (found-refused s i (opened-refused s (header-many s h m r (omega arith) refl)))
+  pub past-not-shown : (j : ℕ) → memberAtOf s j ≡ arch.Refused (refuseOf pastFile)
+  past-not-shown j = sym (found-refused s j (sym past-refused))
 
--- The only member of a file may end where the file ends..
-pub one-at-length : (s : List ℕ) → Header s 1 → 28 ≤ length s → endAt s 8 ≡ length s → openOf s ≡ Value 1
-one-at-length s h r e =
-    sym (good-opened s 1 h (λ i l. let z : rowAt i ≡ 8 = omega arith in rw z (record { member = archOf fatArch (fieldsAt s 8); is = sym (end-at-length s 8 r e) })))
+-- A count of 33 or more is 3 in every door, whatever follows and however long the file is.
+module _ (s : List ℕ) (r : 8 ≤ length s) (m : numberAt true 4 s 0 ≡ fatMagic) where
+  pub many-refused : 33 ≤ numberAt true 4 s 4 → openOf s ≡ Refused (refuseOf limit)
+  many-refused n =
+      ⊎-elim (λ h. sym (opened-refused s (header-many s h m r (omega arith) refl))) (λ h. sym (opened-refused s (header-long s h refl)))
+      (le-or-lt (length s) fileLimit)
 
--- ..and not a byte further: that is 14, in every door.
-pub one-past : (s : List ℕ) → Header s 1 → 24 ≤ length s → endAt s 8 ≡ suc (length s) → openOf s ≡ Refused (refuseOf pastFile)
-one-past s h r e =
-    sym (first-refusal s 1 0 (refuseOf pastFile) h (omega arith) (λ j l. absurd (not-suc-le-zero l)) (sym (end-past s 8 r (omega arith))))
+  pub many-not-shown : (i : ℕ) → 33 ≤ numberAt true 4 s 4 → memberAtOf s i ≡ arch.Refused (refuseOf limit)
+  many-not-shown i n = sym (found-refused s i (sym (many-refused n)))
 
--- A member that reaches past the file is 14 in every door, whichever member is asked for. It is never shown as an empty one.
-pub past-refused : (s : List ℕ) (n i j : ℕ) → Header s n → i < n → ((k : ℕ) → k < i → Good s k) → rowAt i + 16 ≤ length s → length s < endAt s (rowAt i) → memberAtOf s j ≡ found.Refused (refuseOf pastFile)
-past-refused s n i j h l g r p = sym (found-refused s j (first-refusal s n i (refuseOf pastFile) h l g (sym (end-past s (rowAt i) r p))))
+  -- So a Java class file, which has the same magic and a second word of 45 or more, is refused with 3 in every door.
+  pub java-refused : (i : ℕ) → 45 ≤ numberAt true 4 s 4
+      → (openOf s ≡ Refused (refuseOf limit)) × (memberAtOf s i ≡ arch.Refused (refuseOf limit))
+  java-refused i n = (many-refused (omega arith), many-not-shown i (omega arith))
 
--- Of a file that opens, the members below the count are shown, as they stand there..
-pub found-below : (s : List ℕ) (n i : ℕ) → Value n ≡ openOf s → i < n → (memberAtOf s i ≡ readOf fatArch s (rowAt i)) × There (memberAtOf s i)
+-- Of a file that opens, the members below the count are shown, as they are there..
+pub found-below : (s : List ℕ) (n i : ℕ) → Value n ≡ openOf s → i < n
+    → (memberAtOf s i ≡ readOf fatArch s (rowAt i)) × There (memberAtOf s i)
 found-below s n i e h =
     let f : readOf fatArch s (rowAt i) ≡ memberAtOf s i = found-at s i (rowAt i) e h (omega arith) refl in
     (sym f, rw f at (found-there s i e h))
 
--- ..and none at the count or past it: that is 10.
-pub found-above : (s : List ℕ) (n i : ℕ) → Value n ≡ openOf s → n ≤ i → memberAtOf s i ≡ found.Refused (refuseOf notFound)
+-- ..and none at the count or after it: that is 10.
+pub found-above : (s : List ℕ) (n i : ℕ) → Value n ≡ openOf s → n ≤ i → memberAtOf s i ≡ arch.Refused (refuseOf notFound)
 found-above s n i e h = sym (found-past s i e h refl)
 
 -- Of a file that does not open, every index is answered as opening is.
-pub found-none : (s : List ℕ) (k : Refusal) (i : ℕ) → Refused k ≡ openOf s → memberAtOf s i ≡ found.Refused k
+pub found-none : (s : List ℕ) (k : Refusal) (i : ℕ) → Refused k ≡ openOf s → memberAtOf s i ≡ arch.Refused k
 found-none s k i e = sym (found-refused s i e)
 
 -- An accepted member lies in the file, and its part is exactly its bytes.
-module _ (s : List ℕ) (i : ℕ) (m : FatArch) (e : memberAtOf s i ≡ found.Value m) where
+module _ (s : List ℕ) (i : ℕ) (m : FatArch) (e : memberAtOf s i ≡ arch.Value m) where
   pub found-within : m .offset + m .size ≤ length s
   found-within = inside-is s e (found-inside s i)
 
@@ -102,10 +112,16 @@ module _ (s : List ℕ) (i : ℕ) (m : FatArch) (e : memberAtOf s i ≡ found.Va
   pub part-byte : (j : ℕ) → j < m .size → getD (bytesAtOf s (memberAtOf s i)) j 0 ≡ getD s (m .offset + j) 0
   part-byte j h = rw (bytes, getD-take, getD-drop)
 
-  -- what stands before it, the part, and what stands behind it are the file
+  -- what is before it, the part, and what is after it are the file
   pub part-of-file : take (m .offset) s ++ bytesAtOf s (memberAtOf s i) ++ drop (m .offset + m .size) s ≡ s
   part-of-file =
-      rw (bytes, append-assoc (take (m .offset) s) (take (m .size) (drop (m .offset) s)) (drop (m .offset + m .size) s), ← drop-drop (m .size) (m .offset) s, take-append-drop (m .size) (drop (m .offset) s))
+      rw (
+        bytes,
+        append-assoc (take (m .offset) s) (take (m .size) (drop (m .offset) s)) (drop (m .offset + m .size) s),
+        ← drop-drop
+            (m .size) (m .offset) s,
+        take-append-drop (m .size) (drop (m .offset) s),
+      )
       (take-append-drop (m .offset) s)
 
 -- Two answers that meet a promise of this crate are equal.
@@ -115,10 +131,14 @@ open-unique s = same
 pub member-at-unique : (s : List ℕ) (i : ℕ) {r q : ReadFatArch} → r ≡ memberAtOf s i → q ≡ memberAtOf s i → r ≡ q
 member-at-unique s i = same
 
--- the promise of `bytes_at`, of the file `s` that lies at `p`
-abbrev pub Handed : List ℕ → ℕ × ℕ → ℕ → FatArchBytes → Type 0
-Handed s p i r =
-    (r .arch ≡ memberAtOf s i) × (now (r .bytes) ≡ bytesAtOf s (memberAtOf s i)) × (r .bytes .ptr ≡ startOf p (memberAtOf s i))
-
-pub bytes-at-unique : (s : List ℕ) (p : ℕ × ℕ) (i : ℕ) (r q : FatArchBytes) → Handed s p i r → Handed s p i q → (r .arch ≡ q .arch) × (now (r .bytes) ≡ now (q .bytes)) × (r .bytes .ptr ≡ q .bytes .ptr)
+-- of the file `s` that is at `p`
+pub bytes-at-unique : (s : List ℕ) (p : ℕ × ℕ) (i : ℕ) (r q : FatArchBytes)
+    → (r .arch ≡ memberAtOf s i) × (now (r .bytes) ≡ bytesAtOf s (memberAtOf s i)) × (r .bytes .ptr ≡ startOf p (memberAtOf s i))
+    → (q .arch ≡ memberAtOf s i) × (now (q .bytes) ≡ bytesAtOf s (memberAtOf s i)) × (q .bytes .ptr ≡ startOf p (memberAtOf s i))
+    → (r .arch ≡ q .arch) × (now (r .bytes) ≡ now (q .bytes)) × (r .bytes .ptr ≡ q .bytes .ptr)
 bytes-at-unique s p i r q e f = (same (e .0) (f .0), same (e .1) (f .1), same (e .2) (f .2))
+
+-- The answer has as many numbers as it says, zeros where it is refused.
+pub open-count : (a : OpenFat) → length (values countOpenFat (answerOpenFat a)) ≡ countOpenFat
+open-count (Value n) = refl
+open-count (Refused k) = refl

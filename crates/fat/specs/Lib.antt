@@ -1,3 +1,3 @@
 -- `Fat` is the format and what each door answers, `Answers` what each answer stands for.
-pub mod Fat
 pub mod Answers
+pub mod Fat

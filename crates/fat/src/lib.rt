@@ -2,6 +2,7 @@
 ghost use mathlib.Core.Path.{_≡_};
 ghost use Rattle.fat_member.specs.FatArch.{Inside};
 ghost use Rattle.fat.specs.Fat.{headerIn, openOf, memberAtOf, bytesAtOf, startOf};
+use answer::Reason;
 use answer::Refusal;
 use cursor::Cursor;
 use cursor::NextU32;
@@ -57,14 +58,14 @@ pub fn member_at(file: &[u8], index: usize) -> ReadFatArch
     if index < count as usize {
         return fat_member::read(file, HEADER + fat_member::SIZE * index);
     }
-    ReadFatArch::Refused(Refusal {
-        number: answer::NOT_FOUND,
-    })
+    ReadFatArch::Refused(answer::refuse(Reason::NotFound))
 }
 
-// The member with that index, and its bytes where they lie in the file.
+// The member with that index, and its bytes where they are in the file.
 pub fn bytes_at<'a>(file: &'a [u8], index: usize) -> FatArchBytes<'a>
-    ensures { λ r. ⌜ (r .arch ≡ memberAtOf (now (file .entry)) index) × (now (r .bytes) ≡ bytesAtOf (now (file .entry)) (memberAtOf (now (file .entry)) index)) × (r .bytes .ptr ≡ startOf (file .entry .ptr) (memberAtOf (now (file .entry)) index)) ⌝ }
+    ensures { λ r. ⌜ (r .arch ≡ memberAtOf (now (file .entry)) index)
+        × (now (r .bytes) ≡ bytesAtOf (now (file .entry)) (memberAtOf (now (file .entry)) index))
+        × (r .bytes .ptr ≡ startOf (file .entry .ptr) (memberAtOf (now (file .entry)) index)) ⌝ }
 {
     let found = member_at(file, index);
     let bytes = slice(file, found);
@@ -91,27 +92,21 @@ fn header(file: &[u8]) -> OpenFat
     ensures { λ r. ⌜ r ≡ headerIn (now (file .entry)) ⌝ }
 {
     if answer::FILE_LIMIT < file.len() {
-        return OpenFat::Refused(Refusal {
-            number: answer::LIMIT,
-        });
+        return OpenFat::Refused(answer::refuse(Reason::Limit));
     }
     let magic = match Cursor::new(0).next_u32(file, true) {
         NextU32::Value(t) => t,
         NextU32::Refused(k) => return OpenFat::Refused(k),
     };
     if magic.value != FAT_MAGIC {
-        return OpenFat::Refused(Refusal {
-            number: answer::MAGIC,
-        });
+        return OpenFat::Refused(answer::refuse(Reason::Magic));
     }
     let count = match magic.next.next_u32(file, true) {
         NextU32::Value(t) => t,
         NextU32::Refused(k) => return OpenFat::Refused(k),
     };
     if MEMBER_LIMIT < count.value {
-        return OpenFat::Refused(Refusal {
-            number: answer::LIMIT,
-        });
+        return OpenFat::Refused(answer::refuse(Reason::Limit));
     }
     OpenFat::Value(count.value)
 }

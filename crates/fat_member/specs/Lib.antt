@@ -1,4 +1,3 @@
--- `Fields` reads the fields of a record in parts, `FatArch` is the record and its checks, `Answers` what each answer stands for.
-pub mod Fields
+-- `FatArch` is the record and its check, `Answers` what each answer stands for.
 pub mod FatArch
 pub mod Answers

@@ -4,6 +4,7 @@ ghost use Prim.Native.Nat.{_+_};
 ghost use mathlib.Core.List.{_∷_, []};
 ghost use lib.Dec.{leb};
 ghost use Rattle.fat_member.specs.FatArch.{fatArch, archOf, readOf};
+use answer::Reason;
 use answer::Refusal;
 use cursor::Cursor;
 use cursor::NextU32;
@@ -11,7 +12,7 @@ use cursor::NextU32;
 // The bytes that a member takes in the table.
 pub const SIZE: usize = 20;
 
-// The offset and the size have room for 64 bits, as the form of the header with wide members has them.
+// The offset and the size have 64 bits, though the fields have 32.
 pub struct FatArch {
     pub cputype: u32,
     // Without its top 8 bits, which are `caps`.
@@ -28,7 +29,7 @@ pub enum ReadFatArch {
     Refused(Refusal),
 }
 
-// The member that stands at `at`. It must end within the bytes: they are the file.
+// The member at `at`. The bytes are taken for the whole file, in which the member must end; their own length is not checked.
 pub fn read(file: &[u8], at: usize) -> ReadFatArch
     ensures { λ r. ⌜ r ≡ readOf fatArch (now (file .entry)) at ⌝ }
 {
@@ -61,9 +62,7 @@ pub fn read(file: &[u8], at: usize) -> ReadFatArch
             align.value,
         ));
     }
-    ReadFatArch::Refused(Refusal {
-        number: answer::PAST_FILE,
-    })
+    ReadFatArch::Refused(answer::refuse(Reason::PastFile))
 }
 
 // Whether a member ends within `len` bytes. The sum has more than 32 bits.
@@ -78,11 +77,11 @@ fn member_of(cputype: u32, cpusubtype: u32, offset: u32, size: u32, align: u32) 
 {
     FatArch {
         cputype,
-        cpusubtype: cpusubtype % 0x1000000,
-        caps: (cpusubtype / 0x1000000) as u8,
+        cpusubtype: cpusubtype % 0x01000000,
+        caps: (cpusubtype / 0x01000000) as u8,
         offset: offset as u64,
         size: size as u64,
         align,
-        is_64: cputype / 0x1000000 % 2 == 1,
+        is_64: cputype / 0x01000000 % 2 == 1,
     }
 }

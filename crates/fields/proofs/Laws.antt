@@ -11,19 +11,19 @@ use lib.ListN.{length, set, length-append}
 use lib.Seq.{sets, sets-eq, length-sets}
 use lib.Dec.{leb}
 use borrow.Author.Tests.{le-leb, lt-leb, leb-true, leb-false}
-use Rattle.answer.specs.Answer.{Answer, accepted, refused, cutOf, refuseOf, short, room}
+use Rattle.answer.specs.Answer.{Answer, accepted, refused, cutOf, refuseOf, room}
 use Rattle.answer.specs.declared.Refusal.{Refusal}
 use Rattle.fields.specs.Number.{numberAt, bytesOf, joined}
 use Rattle.fields.specs.Field.{readOf, put, stored, writeOf}
 use Rattle.fields.specs.Answers.{answerReadU8, answerReadU16, answerReadU32, answerReadU64}
 use Rattle.fields.specs.declared.ReadU8.{ReadU8}
-use Rattle.fields.specs.declared.ReadU8.the-variants as byte
+use Rattle.fields.specs.declared.ReadU8.the-variants as u8
 use Rattle.fields.specs.declared.ReadU16.{ReadU16}
-use Rattle.fields.specs.declared.ReadU16.the-variants as half
+use Rattle.fields.specs.declared.ReadU16.the-variants as u16
 use Rattle.fields.specs.declared.ReadU32.{ReadU32}
-use Rattle.fields.specs.declared.ReadU32.the-variants as word
+use Rattle.fields.specs.declared.ReadU32.the-variants as u32
 use Rattle.fields.specs.declared.ReadU64.{ReadU64}
-use Rattle.fields.specs.declared.ReadU64.the-variants as long
+use Rattle.fields.specs.declared.ReadU64.the-variants as u64
 use Rattle.fields.specs.declared.WriteBytes.the-variants.{Done, Refused}
 use Rattle.fields.proofs.Number.{length-bytes, number-joined, bytes-joined, number-one, bytes-one}
 
@@ -33,11 +33,6 @@ by-test a b false e = inr (leb-false a b e)
 
 pub le-or-lt : (a b : ℕ) → (a ≤ b) ⊎ (b < a)
 le-or-lt a b = by-test a b (leb a b) refl
-
--- the refusal of a field, as the code makes it
-pub cut-short : (end : ℕ) → refuseOf short ≡ cutOf end
-unfolding cutOf
-cut-short end = refl
 
 -- Reading, from the code's side: what a `return` answers is the field.
 module _ {A : Type 0} (value : ℕ → A) (refusal : Refusal → A) (big : Bool) (w : ℕ) (s : List ℕ) (at : ℕ) where
@@ -59,7 +54,9 @@ same-refusal : {k j : Refusal} → refused k ≡ refused j → k ≡ j
 same-refusal e = cc
 
 -- Reading, from the caller's side: what an answer tells, by what it stands for (`sees`).
-module _ {A : Type 0} (value : ℕ → A) (refusal : Refusal → A) (sees : A → Answer) (ns : ℕ → List ℕ) (v : (n : ℕ) → sees (value n) ≡ accepted (ns n)) (q : (k : Refusal) → sees (refusal k) ≡ refused k) (big : Bool) (w : ℕ) (s : List ℕ) (at : ℕ) {r : A} (e : r ≡ readOf value refusal big w s at) where
+module _ {A : Type 0} (value : ℕ → A) (refusal : Refusal → A) (sees : A → Answer) (ns : ℕ → List ℕ)
+    (v : (n : ℕ) → sees (value n) ≡ accepted (ns n)) (q : (k : Refusal) → sees (refusal k) ≡ refused k) (big : Bool) (w : ℕ) (s : List ℕ)
+    (at : ℕ) {r : A} (e : r ≡ readOf value refusal big w s at) where
   -- it is accepted: there was room, and the values are those of the field's number
   pub told-value : {ms : List ℕ} → sees r ≡ accepted ms → (at + w ≤ length s) × (ms ≡ ns (numberAt big w s at))
   told-value f =
@@ -95,33 +92,41 @@ found-of p = record { inside = p .0; value = one-value (p .1) }
 pub missed-of : {w : ℕ} {s : List ℕ} {at : ℕ} {k : Refusal} → (length s < at + w) × (k ≡ cutOf (at + w)) → Missed w s at k
 missed-of p = record { past = p .0; why = p .1 }
 
-module _ (s : List ℕ) (at : ℕ) {r : ReadU8} (e : r ≡ readOf byte.Value byte.Refused false 1 s at) where
-  pub u8-found : {n : ℕ} → r ≡ byte.Value n → Found false 1 s at n
-  u8-found f = found-of (told-value byte.Value byte.Refused answerReadU8 (λ n. n ∷ []) (λ n. refl) (λ k. refl) false 1 s at e (ap answerReadU8 f))
+module _ (s : List ℕ) (at : ℕ) {r : ReadU8} (e : r ≡ readOf u8.Value u8.Refused false 1 s at) where
+  pub u8-found : {n : ℕ} → r ≡ u8.Value n → Found false 1 s at n
+  u8-found f = found-of
+      (told-value u8.Value u8.Refused answerReadU8 (λ n. n ∷ []) (λ n. refl) (λ k. refl) false 1 s at e (ap answerReadU8 f))
 
-  pub u8-missed : {k : Refusal} → r ≡ byte.Refused k → Missed 1 s at k
-  u8-missed f = missed-of (told-cut byte.Value byte.Refused answerReadU8 (λ n. n ∷ []) (λ n. refl) (λ k. refl) false 1 s at e (ap answerReadU8 f))
+  pub u8-missed : {k : Refusal} → r ≡ u8.Refused k → Missed 1 s at k
+  u8-missed f = missed-of
+      (told-cut u8.Value u8.Refused answerReadU8 (λ n. n ∷ []) (λ n. refl) (λ k. refl) false 1 s at e (ap answerReadU8 f))
 
-module _ (big : Bool) (s : List ℕ) (at : ℕ) {r : ReadU16} (e : r ≡ readOf half.Value half.Refused big 2 s at) where
-  pub u16-found : {n : ℕ} → r ≡ half.Value n → Found big 2 s at n
-  u16-found f = found-of (told-value half.Value half.Refused answerReadU16 (λ n. n ∷ []) (λ n. refl) (λ k. refl) big 2 s at e (ap answerReadU16 f))
+module _ (big : Bool) (s : List ℕ) (at : ℕ) {r : ReadU16} (e : r ≡ readOf u16.Value u16.Refused big 2 s at) where
+  pub u16-found : {n : ℕ} → r ≡ u16.Value n → Found big 2 s at n
+  u16-found f = found-of
+      (told-value u16.Value u16.Refused answerReadU16 (λ n. n ∷ []) (λ n. refl) (λ k. refl) big 2 s at e (ap answerReadU16 f))
 
-  pub u16-missed : {k : Refusal} → r ≡ half.Refused k → Missed 2 s at k
-  u16-missed f = missed-of (told-cut half.Value half.Refused answerReadU16 (λ n. n ∷ []) (λ n. refl) (λ k. refl) big 2 s at e (ap answerReadU16 f))
+  pub u16-missed : {k : Refusal} → r ≡ u16.Refused k → Missed 2 s at k
+  u16-missed f = missed-of
+      (told-cut u16.Value u16.Refused answerReadU16 (λ n. n ∷ []) (λ n. refl) (λ k. refl) big 2 s at e (ap answerReadU16 f))
 
-module _ (big : Bool) (s : List ℕ) (at : ℕ) {r : ReadU32} (e : r ≡ readOf word.Value word.Refused big 4 s at) where
-  pub u32-found : {n : ℕ} → r ≡ word.Value n → Found big 4 s at n
-  u32-found f = found-of (told-value word.Value word.Refused answerReadU32 (λ n. n ∷ []) (λ n. refl) (λ k. refl) big 4 s at e (ap answerReadU32 f))
+module _ (big : Bool) (s : List ℕ) (at : ℕ) {r : ReadU32} (e : r ≡ readOf u32.Value u32.Refused big 4 s at) where
+  pub u32-found : {n : ℕ} → r ≡ u32.Value n → Found big 4 s at n
+  u32-found f = found-of
+      (told-value u32.Value u32.Refused answerReadU32 (λ n. n ∷ []) (λ n. refl) (λ k. refl) big 4 s at e (ap answerReadU32 f))
 
-  pub u32-missed : {k : Refusal} → r ≡ word.Refused k → Missed 4 s at k
-  u32-missed f = missed-of (told-cut word.Value word.Refused answerReadU32 (λ n. n ∷ []) (λ n. refl) (λ k. refl) big 4 s at e (ap answerReadU32 f))
+  pub u32-missed : {k : Refusal} → r ≡ u32.Refused k → Missed 4 s at k
+  u32-missed f = missed-of
+      (told-cut u32.Value u32.Refused answerReadU32 (λ n. n ∷ []) (λ n. refl) (λ k. refl) big 4 s at e (ap answerReadU32 f))
 
-module _ (big : Bool) (s : List ℕ) (at : ℕ) {r : ReadU64} (e : r ≡ readOf long.Value long.Refused big 8 s at) where
-  pub u64-found : {n : ℕ} → r ≡ long.Value n → Found big 8 s at n
-  u64-found f = found-of (told-value long.Value long.Refused answerReadU64 (λ n. n ∷ []) (λ n. refl) (λ k. refl) big 8 s at e (ap answerReadU64 f))
+module _ (big : Bool) (s : List ℕ) (at : ℕ) {r : ReadU64} (e : r ≡ readOf u64.Value u64.Refused big 8 s at) where
+  pub u64-found : {n : ℕ} → r ≡ u64.Value n → Found big 8 s at n
+  u64-found f = found-of
+      (told-value u64.Value u64.Refused answerReadU64 (λ n. n ∷ []) (λ n. refl) (λ k. refl) big 8 s at e (ap answerReadU64 f))
 
-  pub u64-missed : {k : Refusal} → r ≡ long.Refused k → Missed 8 s at k
-  u64-missed f = missed-of (told-cut long.Value long.Refused answerReadU64 (λ n. n ∷ []) (λ n. refl) (λ k. refl) big 8 s at e (ap answerReadU64 f))
+  pub u64-missed : {k : Refusal} → r ≡ u64.Refused k → Missed 8 s at k
+  u64-missed f = missed-of
+      (told-cut u64.Value u64.Refused answerReadU64 (λ n. n ∷ []) (λ n. refl) (λ k. refl) big 8 s at e (ap answerReadU64 f))
 
 -- one byte is the same in either order
 pub byte-order : (big : Bool) (s : List ℕ) (at : ℕ) {n : ℕ} → Found false 1 s at n → Found big 1 s at n
@@ -129,7 +134,8 @@ byte-order big s at f =
     record { inside = f .inside; value = f .value ∙ number-one false s at (f .inside) ∙ sym (number-one big s at (f .inside)) }
 
 -- a field of twice the width, from the two halves that were found
-pub halves-found : (big : Bool) (w : ℕ) (s : List ℕ) (at i : ℕ) {a b n : ℕ} → Found big w s at a → Found big w s i b → i ≡ at + w → n ≡ joined big w a b → Found big (w + w) s at n
+pub halves-found : (big : Bool) (w : ℕ) (s : List ℕ) (at i : ℕ) {a b n : ℕ} → Found big w s at a → Found big w s i b → i ≡ at + w
+    → n ≡ joined big w a b → Found big (w + w) s at n
 halves-found big w s at i {a} {b} f g e j =
     let h : at + (w + w) ≤ length s = omega (arith, g .inside) in
     record { inside = h; value = j ∙ rw (f .value, g .value, e, number-joined big w s at h) }
@@ -147,10 +153,17 @@ pub length-put : (o : List ℕ) (at : ℕ) (bs : List ℕ) → at + length bs �
 length-put o at bs h = rw (← put-sets o at bs h) (length-sets o at bs)
 
 -- what is put after what was put is put as one
-pub put-both : (o : List ℕ) (at m : ℕ) (a b : List ℕ) → m ≡ at + length a → at + length a + length b ≤ length o → put (put o at a) m b ≡ put o at (a ++ b)
+pub put-both : (o : List ℕ) (at m : ℕ) (a b : List ℕ) → m ≡ at + length a → at + length a + length b ≤ length o
+    → put (put o at a) m b ≡ put o at (a ++ b)
 put-both o at m a b e h =
     let l : length (sets o at a) ≡ length o = length-sets o at a in
-    rw (e, ← put-sets o at a (omega arith), ← put-sets (sets o at a) (at + length a) b (omega arith), ← put-sets o at (a ++ b) (omega (arith, length-append a b))) (sets-both o at a b)
+    rw (
+      e,
+      ← put-sets o at a (omega arith),
+      ← put-sets (sets o at a) (at + length a) b (omega arith),
+      ← put-sets o at (a ++ b)
+          (omega (arith, length-append a b)),
+    ) (sets-both o at a b)
 
 -- one byte, as the code stores it
 pub put-one : (big : Bool) (o : List ℕ) (at n : ℕ) → at + 1 ≤ length o → n < 256 → set o at n ≡ put o at (bytesOf big 1 n)
@@ -161,11 +174,14 @@ pub put-order : (big : Bool) (o l : List ℕ) (at n : ℕ) → n < 256 → l ≡
 put-order big o l at n h e = e ∙ rw (bytes-one false n h, bytes-one big n h)
 
 -- two halves that are put one after the other are the number that they join to
-pub put-joined : (big t : Bool) → big ≡ t → (w a b n : ℕ) (o l m : List ℕ) (at i : ℕ) → at + (w + w) ≤ length o → a < 256 ^ w → b < 256 ^ w → n ≡ joined t w a b → l ≡ put o at (bytesOf big w a) → i ≡ at + w → m ≡ put l i (bytesOf big w b) → m ≡ put o at (bytesOf big (w + w) n)
+pub put-joined : (big t : Bool) → big ≡ t → (w a b n : ℕ) (o l m : List ℕ) (at i : ℕ) → at + (w + w) ≤ length o → a < 256 ^ w → b < 256 ^ w
+    → n ≡ joined t w a b → l ≡ put o at (bytesOf big w a) → i ≡ at + w → m ≡ put l i (bytesOf big w b)
+    → m ≡ put o at (bytesOf big (w + w) n)
 put-joined big t et w a b n o l m at i h ha hb en el ei em =
     let la : length (bytesOf big w a) ≡ w = length-bytes big w a in
     let lb : length (bytesOf big w b) ≡ w = length-bytes big w b in
-    let j : put (put o at (bytesOf big w a)) i (bytesOf big w b) ≡ put o at (bytesOf big w a ++ bytesOf big w b) = put-both o at i (bytesOf big w a) (bytesOf big w b) (omega arith) (omega arith) in
+    let j : put (put o at (bytesOf big w a)) i (bytesOf big w b) ≡ put o at (bytesOf big w a ++ bytesOf big w b) = put-both o at i
+    (bytesOf big w a) (bytesOf big w b) (omega arith) (omega arith) in
     em ∙ rw (el, j, en, ← et, bytes-joined big w a b ha hb)
 
 -- Storing bytes of a length that the code has tested for.

@@ -111,12 +111,14 @@ unfolding numberAt
 number-written big w n rest h = rw (take-all-of w (bytesOf big w n) rest (length-bytes big w n)) (bytes-number big w n h)
 
 -- bytes that were read as a number are written back
-pub bytes-read : (big : Bool) (w : ℕ) (s : List ℕ) (at : ℕ) → at + w ≤ length s → Bytes s → bytesOf big w (numberAt big w s at) ≡ take w (drop at s)
+pub bytes-read : (big : Bool) (w : ℕ) (s : List ℕ) (at : ℕ) → at + w ≤ length s → Bytes s
+    → bytesOf big w (numberAt big w s at) ≡ take w (drop at s)
 unfolding numberAt bytesOf
 bytes-read big w s at h b =
     let t : List ℕ = take w (drop at s) in
     let l : length (ordered big t) ≡ w = ordered-length big t ∙ simp (length-take, length-drop) (omega arith) in
-    let k : littleBytes w (little (ordered big t)) ≡ ordered big t = rw l at (bytes-back (ordered big t) (ordered-bytes big t (bytes-take w (drop at s) (bytes-drop at s b)))) in
+    let k : littleBytes w (little (ordered big t)) ≡ ordered big t = rw l at
+    (bytes-back (ordered big t) (ordered-bytes big t (bytes-take w (drop at s) (bytes-drop at s b)))) in
     rw k (ordered-twice big t)
 
 flip-append : (a b : List ℕ) → flip (a ++ b) ≡ flip b ++ flip a
@@ -133,12 +135,14 @@ little-append (suc w) (x ∷ a) b e =
     omega arith
 
 -- a number of twice the width is read as its two halves, joined
-pub number-joined : (big : Bool) (w : ℕ) (s : List ℕ) (at : ℕ) → at + (w + w) ≤ length s → numberAt big (w + w) s at ≡ joined big w (numberAt big w s at) (numberAt big w s (at + w))
+pub number-joined : (big : Bool) (w : ℕ) (s : List ℕ) (at : ℕ) → at + (w + w) ≤ length s
+    → numberAt big (w + w) s at ≡ joined big w (numberAt big w s at) (numberAt big w s (at + w))
 unfolding numberAt
 number-joined true w s at h =
     let l : length (take w (drop (at + w) s)) ≡ w = simp (length-take, length-drop) (omega arith) in
     let k : length (flip (take w (drop (at + w) s))) ≡ w = length-flip (take w (drop (at + w) s)) ∙ l in
-    rw (take-add w w (drop at s), drop-drop w at s, flip-append (take w (drop at s)) (take w (drop (at + w) s))) (little-append w (flip (take w (drop (at + w) s))) (flip (take w (drop at s))) k)
+    rw (take-add w w (drop at s), drop-drop w at s, flip-append (take w (drop at s)) (take w (drop (at + w) s)))
+    (little-append w (flip (take w (drop (at + w) s))) (flip (take w (drop at s))) k)
 number-joined false w s at h =
     let l : length (take w (drop at s)) ≡ w = simp (length-take, length-drop) (omega arith) in
     rw (take-add w w (drop at s), drop-drop w at s) (little-append w (take w (drop at s)) (take w (drop (at + w) s)) l)
@@ -152,7 +156,8 @@ little-joined w a b ha hb =
     rw (← l, ← n) (bytes-back (A ++ B) (bytes-append A B (small-little w a) (small-little w b)))
 
 -- a number of twice the width is written as its two halves, the first of the file first
-pub bytes-joined : (big : Bool) (w a b : ℕ) → a < 256 ^ w → b < 256 ^ w → bytesOf big (w + w) (joined big w a b) ≡ bytesOf big w a ++ bytesOf big w b
+pub bytes-joined : (big : Bool) (w a b : ℕ) → a < 256 ^ w → b < 256 ^ w
+    → bytesOf big (w + w) (joined big w a b) ≡ bytesOf big w a ++ bytesOf big w b
 unfolding bytesOf
 bytes-joined true w a b ha hb = rw (little-joined w b a hb ha) (flip-append (littleBytes w b) (littleBytes w a))
 bytes-joined false w a b ha hb = little-joined w a b ha hb

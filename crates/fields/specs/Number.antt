@@ -1,4 +1,4 @@
--- The number that bytes write, and the bytes that write a number, in either order.
+-- The number that bytes spell, and the bytes that spell a number, in either order.
 -- Assumes nothing.
 use Prim.Native.Nat.{ℕ, zero, suc, _+_, _*_, _/_, _%_, _^_, _<_}
 use mathlib.Core.List.{List, [], _∷_, _++_}
@@ -11,12 +11,12 @@ abbrev pub flip : List ℕ → List ℕ
 flip [] = []
 flip (b ∷ bs) = flip bs ++ (b ∷ [])
 
--- the number that bytes write, the least significant first
+-- 4.2: the number that bytes spell, the least significant first
 abbrev pub little : List ℕ → ℕ
 little [] = 0
 little (b ∷ bs) = b + 256 * little bs
 
--- the `w` bytes of a number, the least significant first; what is past them is lost
+-- the `w` bytes of a number, the least significant first; what does not fit in them is lost
 abbrev pub littleBytes : ℕ → ℕ → List ℕ
 littleBytes zero n = []
 littleBytes (suc w) n = n % 256 ∷ littleBytes w (n / 256)
@@ -25,15 +25,15 @@ littleBytes (suc w) n = n % 256 ∷ littleBytes w (n / 256)
 abbrev pub ordered : Bool → List ℕ → List ℕ
 ordered big bs = pick big (flip bs) bs
 
--- the number that `w` bytes of `s` from `at` write, the most significant first where the order is big
+-- 4.2: the number that `w` bytes of `s` from `at` spell, the most significant first where the order is big
 unfoldable pub numberAt : Bool → ℕ → List ℕ → ℕ → ℕ
 numberAt big w s at = little (ordered big (take w (drop at s)))
 
--- the `w` bytes that write a number
+-- 4.2: the `w` bytes that spell a number
 unfoldable pub bytesOf : Bool → ℕ → ℕ → List ℕ
 bytesOf big w n = ordered big (littleBytes w n)
 
--- the number whose first `w` bytes write `a` and whose next `w` write `b`
+-- the number whose first `w` bytes spell `a` and whose next `w` spell `b`
 abbrev pub joined : Bool → ℕ → ℕ → ℕ → ℕ
 joined big w a b = pick big (256 ^ w * a + b) (256 ^ w * b + a)
 

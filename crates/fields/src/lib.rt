@@ -4,9 +4,9 @@ ghost use mathlib.Core.Path.{_≡_};
 ghost use Prim.Native.Nat.{_+_, _≤_};
 ghost use mathlib.Core.Bool.{false};
 ghost use lib.ListN.{length};
-ghost use Rattle.answer.specs.Answer.{refuseOf, short, room};
 ghost use Rattle.fields.specs.Number.{bytesOf, joined};
-ghost use Rattle.fields.specs.Field.{fitsOf, readOf, put, stored, writeOf};
+ghost use Rattle.fields.specs.Field.{fitsOf, readOf, put, writeOf, writeOut};
+use answer::Reason;
 use answer::Refusal;
 
 pub enum ReadU8 {
@@ -40,17 +40,17 @@ pub fn read_u8(s: &[u8], at: usize) -> ReadU8
     if at < s.len() {
         return ReadU8::Value(s[at]);
     }
-    ReadU8::Refused(cut())
+    ReadU8::Refused(answer::cut(at, 1))
 }
 
 pub fn read_u16(s: &[u8], at: usize, big: bool) -> ReadU16
     ensures { λ r. ⌜ r ≡ readOf ReadU16.Value ReadU16.Refused big 2 (now (s .entry)) at ⌝ }
 {
     let ReadU8::Value(first) = read_u8(s, at) else {
-        return ReadU16::Refused(cut());
+        return ReadU16::Refused(answer::cut(at, 2));
     };
     let ReadU8::Value(second) = read_u8(s, at + 1) else {
-        return ReadU16::Refused(cut());
+        return ReadU16::Refused(answer::cut(at, 2));
     };
     ReadU16::Value(u16_of(first, second, big))
 }
@@ -59,10 +59,10 @@ pub fn read_u32(s: &[u8], at: usize, big: bool) -> ReadU32
     ensures { λ r. ⌜ r ≡ readOf ReadU32.Value ReadU32.Refused big 4 (now (s .entry)) at ⌝ }
 {
     let ReadU16::Value(first) = read_u16(s, at, big) else {
-        return ReadU32::Refused(cut());
+        return ReadU32::Refused(answer::cut(at, 4));
     };
     let ReadU16::Value(second) = read_u16(s, at + 2, big) else {
-        return ReadU32::Refused(cut());
+        return ReadU32::Refused(answer::cut(at, 4));
     };
     ReadU32::Value(u32_of(first, second, big))
 }
@@ -71,52 +71,52 @@ pub fn read_u64(s: &[u8], at: usize, big: bool) -> ReadU64
     ensures { λ r. ⌜ r ≡ readOf ReadU64.Value ReadU64.Refused big 8 (now (s .entry)) at ⌝ }
 {
     let ReadU32::Value(first) = read_u32(s, at, big) else {
-        return ReadU64::Refused(cut());
+        return ReadU64::Refused(answer::cut(at, 8));
     };
     let ReadU32::Value(second) = read_u32(s, at + 4, big) else {
-        return ReadU64::Refused(cut());
+        return ReadU64::Refused(answer::cut(at, 8));
     };
     ReadU64::Value(u64_of(first, second, big))
 }
 
 pub fn write_u8(out: &mut [u8], at: usize, n: u8) -> WriteBytes
-    ensures { λ r. ⌜ (r ≡ writeOf 1 (now (out .entry)) at) × (now (out .exit) ≡ stored (now (out .entry)) at (bytesOf false 1 n)) ⌝ }
+    ensures { λ r. ⌜ (r ≡ writeOf 1 (now (out .entry)) at) × (now (out .exit) ≡ writeOut false 1 (now (out .entry)) at n) ⌝ }
 {
     if at < out.len() {
         put_u8(out, at, n);
         return WriteBytes::Done;
     }
-    WriteBytes::Refused(no_room())
+    WriteBytes::Refused(answer::refuse(Reason::Room))
 }
 
 pub fn write_u16(out: &mut [u8], at: usize, n: u16, big: bool) -> WriteBytes
-    ensures { λ r. ⌜ (r ≡ writeOf 2 (now (out .entry)) at) × (now (out .exit) ≡ stored (now (out .entry)) at (bytesOf big 2 n)) ⌝ }
+    ensures { λ r. ⌜ (r ≡ writeOf 2 (now (out .entry)) at) × (now (out .exit) ≡ writeOut big 2 (now (out .entry)) at n) ⌝ }
 {
     if fits(out.len(), at, 2) {
         put_u16(out, at, n, big);
         return WriteBytes::Done;
     }
-    WriteBytes::Refused(no_room())
+    WriteBytes::Refused(answer::refuse(Reason::Room))
 }
 
 pub fn write_u32(out: &mut [u8], at: usize, n: u32, big: bool) -> WriteBytes
-    ensures { λ r. ⌜ (r ≡ writeOf 4 (now (out .entry)) at) × (now (out .exit) ≡ stored (now (out .entry)) at (bytesOf big 4 n)) ⌝ }
+    ensures { λ r. ⌜ (r ≡ writeOf 4 (now (out .entry)) at) × (now (out .exit) ≡ writeOut big 4 (now (out .entry)) at n) ⌝ }
 {
     if fits(out.len(), at, 4) {
         put_u32(out, at, n, big);
         return WriteBytes::Done;
     }
-    WriteBytes::Refused(no_room())
+    WriteBytes::Refused(answer::refuse(Reason::Room))
 }
 
 pub fn write_u64(out: &mut [u8], at: usize, n: u64, big: bool) -> WriteBytes
-    ensures { λ r. ⌜ (r ≡ writeOf 8 (now (out .entry)) at) × (now (out .exit) ≡ stored (now (out .entry)) at (bytesOf big 8 n)) ⌝ }
+    ensures { λ r. ⌜ (r ≡ writeOf 8 (now (out .entry)) at) × (now (out .exit) ≡ writeOut big 8 (now (out .entry)) at n) ⌝ }
 {
     if fits(out.len(), at, 8) {
         put_u64(out, at, n, big);
         return WriteBytes::Done;
     }
-    WriteBytes::Refused(no_room())
+    WriteBytes::Refused(answer::refuse(Reason::Room))
 }
 
 // Whether `width` bytes from `at` lie within `len` bytes.
@@ -130,22 +130,6 @@ pub fn fits(len: usize, at: usize, width: usize) -> bool
         return false;
     }
     true
-}
-
-fn cut() -> Refusal
-    ensures { λ r. ⌜ r ≡ refuseOf short ⌝ }
-{
-    Refusal {
-        number: answer::SHORT,
-    }
-}
-
-fn no_room() -> Refusal
-    ensures { λ r. ⌜ r ≡ refuseOf room ⌝ }
-{
-    Refusal {
-        number: answer::ROOM,
-    }
 }
 
 fn u16_of(first: u8, second: u8, big: bool) -> u16

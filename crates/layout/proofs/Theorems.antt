@@ -39,12 +39,14 @@ unfolding numberAt
 number-past big w p s at = rw (drop-append-add p s at)
 
 -- What precedes the record does not change what is read; the end that is told counts from the front of all.
-pub read-after : {A : Type 0} (full : List ℕ → A) (short : ℕ → A) (big : Bool) (ws p s : List ℕ) (at : ℕ) → readBy full short big ws (p ++ s) (length p + at) ≡ readBy full (λ e. short (length p + e)) big ws s at
+pub read-after : {A : Type 0} (full : List ℕ → A) (short : ℕ → A) (big : Bool) (ws p s : List ℕ) (at : ℕ)
+    → readBy full short big ws (p ++ s) (length p + at) ≡ readBy full (λ e. short (length p + e)) big ws s at
 unfolding readBy
 read-after full short big [] p s at = refl
 read-after full short big (w ∷ ws) p s at =
     let e : length p + at + w ≡ length p + (at + w) = omega arith in
-    let t : leb (length p + (at + w)) (length (p ++ s)) ≡ leb (at + w) (length s) = leb-shift (length p) (at + w) (length s) (length-append p s) in
+    let t : leb (length p + (at + w)) (length (p ++ s)) ≡ leb (at + w) (length s) = leb-shift (length p) (at + w) (length s)
+    (length-append p s) in
     rw (e, t, number-past big w p s at, read-after (λ ns. full (numberAt big w s at ∷ ns)) short big ws p s (at + w))
 
 numbers-before : (big : Bool) (ws s q : List ℕ) (at : ℕ) → at + size ws ≤ length s → numbersAt big ws (s ++ q) at ≡ numbersAt big ws s at
@@ -63,26 +65,30 @@ numbers-written big (w ∷ ws) (n ∷ ns) p q h =
     let b : List ℕ = bytesOf big w n in
     let r : List ℕ = writeBy big ws ns in
     let f : p ++ (b ++ r) ++ q ≡ p ++ (b ++ (r ++ q)) = simp append-assoc in
-    let e : numberAt big w (p ++ (b ++ r) ++ q) (length p) ≡ n = rw (f, ← add-zero (length p), number-past big w p (b ++ (r ++ q)) 0) (number-written big w n (r ++ q) (h .0)) in
+    let e : numberAt big w (p ++ (b ++ r) ++ q) (length p) ≡ n = rw (f, ← add-zero (length p), number-past big w p (b ++ (r ++ q)) 0)
+    (number-written big w n (r ++ q) (h .0)) in
     let k : length p + w ≡ length (p ++ b) = omega (arith, length-append p b, length-bytes big w n) in
     let a : p ++ (b ++ r) ++ q ≡ (p ++ b) ++ r ++ q = simp append-assoc in
     rw (e, k, a, numbers-written big ws ns (p ++ b) q (h .1))
 
 -- What follows the record does not change what is read.
-pub read-before : {A : Type 0} (full : List ℕ → A) (short : ℕ → A) (big : Bool) (ws s q : List ℕ) (at : ℕ) → at + size ws ≤ length s → readBy full short big ws (s ++ q) at ≡ readBy full short big ws s at
+pub read-before : {A : Type 0} (full : List ℕ → A) (short : ℕ → A) (big : Bool) (ws s q : List ℕ) (at : ℕ) → at + size ws ≤ length s
+    → readBy full short big ws (s ++ q) at ≡ readBy full short big ws s at
 read-before full short big ws s q at h =
     sym (read-full big (s ++ q) full short ws at (omega (arith, length-append s q)))
     ∙ ap full (numbers-before big ws s q at h)
     ∙ read-full big s full short ws at h
 
 -- Numbers that were written are read again, whatever precedes and follows them.
-pub read-written : {A : Type 0} (full : List ℕ → A) (short : ℕ → A) (big : Bool) (ws ns p q : List ℕ) → Fits ws ns → readBy full short big ws (p ++ writeBy big ws ns ++ q) (length p) ≡ full ns
+pub read-written : {A : Type 0} (full : List ℕ → A) (short : ℕ → A) (big : Bool) (ws ns p q : List ℕ) → Fits ws ns
+    → readBy full short big ws (p ++ writeBy big ws ns ++ q) (length p) ≡ full ns
 read-written full short big ws ns p q h =
     sym (read-full big (p ++ writeBy big ws ns ++ q) full short ws (length p) (simp length-append (omega (arith, length-write big ws ns))))
     ∙ ap full (numbers-written big ws ns p q h)
 
 -- Bytes that were read are written again.
-pub written-read : (big : Bool) (ws s : List ℕ) (at : ℕ) → at + size ws ≤ length s → Bytes s → writeBy big ws (numbersAt big ws s at) ≡ take (size ws) (drop at s)
+pub written-read : (big : Bool) (ws s : List ℕ) (at : ℕ) → at + size ws ≤ length s → Bytes s
+    → writeBy big ws (numbersAt big ws s at) ≡ take (size ws) (drop at s)
 unfolding writeBy numbersAt
 written-read big [] s at h b = refl
 written-read big (w ∷ ws) s at h b =
@@ -95,12 +101,14 @@ pub data Reads {A : Type 0} (full : A) (short : ℕ → A) (ws s : List ℕ) (at
   whole : (0 < length ws → at + size ws ≤ length s) → x ≡ full → Reads full short ws s at x
   cut : (needed : ℕ) → length s < needed → needed ≤ at + size ws → x ≡ short needed → Reads full short ws s at x
 
-next : {A : Type 0} {full : A} {short : ℕ → A} {x : A} (w : ℕ) (ws s : List ℕ) (at : ℕ) → at + w ≤ length s → Reads full short ws s (at + w) x → Reads full short (w ∷ ws) s at x
+next : {A : Type 0} {full : A} {short : ℕ → A} {x : A} (w : ℕ) (ws s : List ℕ) (at : ℕ) → at + w ≤ length s
+    → Reads full short ws s (at + w) x → Reads full short (w ∷ ws) s at x
 next w [] s at h (whole r e) = whole (λ z. omega arith) e
 next w (v ∷ ws) s at h (whole r e) = whole (λ z. omega (arith, r (omega arith))) e
 next w ws s at h (cut n a b e) = cut n a (omega arith) e
 
-pub reads : {A : Type 0} (full : List ℕ → A) (short : ℕ → A) (big : Bool) (ws s : List ℕ) (at : ℕ) → Reads (full (numbersAt big ws s at)) short ws s at (readBy full short big ws s at)
+pub reads : {A : Type 0} (full : List ℕ → A) (short : ℕ → A) (big : Bool) (ws s : List ℕ) (at : ℕ)
+    → Reads (full (numbersAt big ws s at)) short ws s at (readBy full short big ws s at)
 unfolding readBy numbersAt
 reads full short big [] s at = whole (λ z. omega arith) refl
 reads full short big (w ∷ ws) s at =
@@ -109,17 +117,23 @@ reads full short big (w ∷ ws) s at =
     (λ h. rw (lt-leb (at + w) (length s) h) (cut (at + w) h (omega arith) refl))
     (le-or-lt (at + w) (length s))
 
-written-none : (big : Bool) (ws s : List ℕ) (at : ℕ) → (0 < length ws → at + size ws ≤ length s) → Bytes s → writeBy big ws (numbersAt big ws s at) ≡ take (size ws) (drop at s)
+written-none : (big : Bool) (ws s : List ℕ) (at : ℕ) → (0 < length ws → at + size ws ≤ length s) → Bytes s
+    → writeBy big ws (numbersAt big ws s at) ≡ take (size ws) (drop at s)
 unfolding writeBy
 written-none big [] s at r b = refl
 written-none big (w ∷ ws) s at r b = written-read big (w ∷ ws) s at (r (omega arith)) b
 
-again : {A : Type 0} (full : List ℕ → A) (short : ℕ → A) (back : A → List ℕ) (big : Bool) (ws s : List ℕ) (at : ℕ) {x : A} → Bytes s → ((needed : ℕ) → x ≡ short needed → ⊥) → back (full (numbersAt big ws s at)) ≡ numbersAt big ws s at → x ≡ readBy full short big ws s at → Reads (full (numbersAt big ws s at)) short ws s at (readBy full short big ws s at) → writeBy big ws (back x) ≡ take (size ws) (drop at s)
+again : {A : Type 0} (full : List ℕ → A) (short : ℕ → A) (back : A → List ℕ) (big : Bool) (ws s : List ℕ) (at : ℕ) {x : A} → Bytes s
+    → ((needed : ℕ) → x ≡ short needed → ⊥) → back (full (numbersAt big ws s at)) ≡ numbersAt big ws s at
+    → x ≡ readBy full short big ws s at → Reads (full (numbersAt big ws s at)) short ws s at (readBy full short big ws s at)
+    → writeBy big ws (back x) ≡ take (size ws) (drop at s)
 again full short back big ws s at b never same e (whole r k) = rw (e, k, same) (written-none big ws s at r b)
 again full short back big ws s at b never same e (cut n r q k) = absurd (never n (e ∙ k))
 
 -- Bytes whose reading was full are written again, from what the reader made of the numbers.
-pub written-again : {A : Type 0} (full : List ℕ → A) (short : ℕ → A) (back : A → List ℕ) (big : Bool) (ws s : List ℕ) (at : ℕ) {x : A} → Bytes s → ((needed : ℕ) → x ≡ short needed → ⊥) → back (full (numbersAt big ws s at)) ≡ numbersAt big ws s at → x ≡ readBy full short big ws s at → writeBy big ws (back x) ≡ take (size ws) (drop at s)
+pub written-again : {A : Type 0} (full : List ℕ → A) (short : ℕ → A) (back : A → List ℕ) (big : Bool) (ws s : List ℕ) (at : ℕ) {x : A}
+    → Bytes s → ((needed : ℕ) → x ≡ short needed → ⊥) → back (full (numbersAt big ws s at)) ≡ numbersAt big ws s at
+    → x ≡ readBy full short big ws s at → writeBy big ws (back x) ≡ take (size ws) (drop at s)
 written-again full short back big ws s at b never same e = again full short back big ws s at b never same e (reads full short big ws s at)
 
 -- the elements of an array are all of it

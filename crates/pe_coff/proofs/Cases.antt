@@ -9,6 +9,7 @@ use Rattle.answer.specs.Test.{must}
 use Rattle.fields.specs.Number.{numberAt}
 use Rattle.layout.specs.Layout.{readBy, size}
 use Rattle.pe_coff.specs.Coff.{coffHeader, readOf}
+use Rattle.pe_coff.specs.declared.CoffHeader.{CoffHeader}
 use Rattle.pe_coff.specs.declared.ReadCoffHeader.the-variants.{Value, Refused}
 
 twenty-bytes : size coffHeader ≡ 20
@@ -18,7 +19,19 @@ twenty-bytes = refl
 abbrev image : ℕ → List ℕ
 image n = 100 ∷ 134 ∷ n ∷ 0 ∷ 1 ∷ 0 ∷ 0 ∷ 94 ∷ 2 ∷ 0 ∷ 0 ∷ 0 ∷ 3 ∷ 0 ∷ 0 ∷ 0 ∷ 240 ∷ 0 ∷ 34 ∷ 32 ∷ []
 
-ninety-six : readOf (image 96) 0 ≡ Value (record { machine = 34404; «number_of_sections» = 96; «time_date_stamp» = 1577058305; «pointer_to_symbol_table» = 2; «number_of_symbols» = 3; «size_of_optional_header» = 240; characteristics = 8226 })
+abbrev header : CoffHeader
+header =
+    record {
+      machine = 0x8664;
+      «number_of_sections» = 96;
+      «time_date_stamp» = 1577058305;
+      «pointer_to_symbol_table» = 2;
+      «number_of_symbols» = 3;
+      «size_of_optional_header» = 240;
+      characteristics = 0x2022;
+    }
+
+ninety-six : readOf (image 96) 0 ≡ Value header
 unfolding readOf must readBy numberAt
 ninety-six = refl
 
@@ -26,7 +39,7 @@ ninety-seven : readOf (image 97) 0 ≡ Refused (refuseOf limit)
 unfolding readOf must readBy numberAt
 ninety-seven = refl
 
--- the count is judged before the bytes behind it are missed
+-- the count is judged before the bytes after it are missed
 count-before-the-rest : readOf (take 4 (image 97)) 0 ≡ Refused (refuseOf limit)
 unfolding readOf must readBy numberAt
 count-before-the-rest = refl

@@ -1,22 +1,19 @@
--- Microsoft, "PE Format", COFF File Header (Object and Image): "At the beginning of an object file, or immediately after the signature
--- of an image file, is a standard COFF file header in the following format." 20 bytes, the least significant byte of each number first.
+-- The COFF header, 20 bytes, the least significant byte of each number first (Microsoft, "PE Format", COFF File Header (Object and
+-- Image)).
 -- Assumes nothing.
-use Prim.Native.String.{String}
 use Prim.Native.Nat.{ℕ, _+_}
 use mathlib.Core.List.{List, [], _∷_, _++_}
 use mathlib.Core.Bool.{false}
-use lib.ListN.{getD, take, drop}
 use lib.Dec.{leb}
-use Rattle.answer.specs.Answer.{cutOf, limit}
+use Rattle.answer.specs.Answer.{limit}
 use Rattle.answer.specs.Test.{must}
-use Rattle.answer.specs.declared.Refusal.{Refusal}
-use Rattle.layout.specs.Layout.{Field, field, widths, place, readBy}
+use Rattle.layout.specs.Layout.{Field, field, widths, the, upTo, after, bytesIn, reading}
 use Rattle.pe_section.specs.Section.{sectionLimit}
 use Rattle.pe_coff.specs.declared.CoffHeader.{CoffHeader}
 use Rattle.pe_coff.specs.declared.ReadCoffHeader.{ReadCoffHeader}
 use Rattle.pe_coff.specs.declared.ReadCoffHeader.the-variants.{Value, Refused}
 
--- offset, size, name
+-- 4.13: offset, width, name
 abbrev pub fields : List Field
 fields =
     field 0 2 "Machine"
@@ -31,23 +28,20 @@ fields =
 abbrev pub coffHeader : List ℕ
 coffHeader = widths fields
 
-abbrev pub the : String → List ℕ → ℕ
-the x ns = getD ns (place x fields) 0
-
--- the numbers of the layout, as the header
+-- 4.13: the numbers of the fields, as the header
 abbrev pub headerOf : List ℕ → CoffHeader
 headerOf ns =
     record {
-      machine = the "Machine" ns;
-      «number_of_sections» = the "NumberOfSections" ns;
-      «time_date_stamp» = the "TimeDateStamp" ns;
-      «pointer_to_symbol_table» = the "PointerToSymbolTable" ns;
-      «number_of_symbols» = the "NumberOfSymbols" ns;
-      «size_of_optional_header» = the "SizeOfOptionalHeader" ns;
-      characteristics = the "Characteristics" ns;
+      machine = the fields "Machine" ns;
+      «number_of_sections» = the fields "NumberOfSections" ns;
+      «time_date_stamp» = the fields "TimeDateStamp" ns;
+      «pointer_to_symbol_table» = the fields "PointerToSymbolTable" ns;
+      «number_of_symbols» = the fields "NumberOfSymbols" ns;
+      «size_of_optional_header» = the fields "SizeOfOptionalHeader" ns;
+      characteristics = the fields "Characteristics" ns;
     }
 
--- the header, as the numbers of the layout
+-- the header, as the numbers of its fields
 abbrev pub numbersOf : CoffHeader → List ℕ
 numbersOf h =
     h .machine
@@ -59,29 +53,18 @@ numbersOf h =
     ∷ h .characteristics
     ∷ []
 
--- the fields up to the section count, and those behind it
-abbrev pub start : List ℕ
-start = take 2 coffHeader
+-- the fields up to the section count, and those after it
+abbrev pub start : List Field
+start = upTo "NumberOfSections" fields
 
-abbrev pub rest : List ℕ
-rest = drop 2 coffHeader
+abbrev pub rest : List Field
+rest = after "NumberOfSections" fields
 
--- What reading the header at `at` answers: 1 at the first field that is not whole, or 3 at the section count, before the fields
--- behind it are looked at.
+-- 3.6, 6.19: what reading the header at `at` answers: the header, or 1 at the first field that is not whole
 unfoldable pub readOf : List ℕ → ℕ → ReadCoffHeader
 readOf s at =
-    readBy
+    reading Refused false start s at
     (λ ms.
-    -- "96 sections pass, 97 is 3."
-    must Refused (leb (the "NumberOfSections" ms) sectionLimit) limit
-    (readBy (λ ns. Value (headerOf (ms ++ ns))) (λ end. Refused (cutOf end)) false rest s (at + 4)))
-    (λ end. Refused (cutOf end))
-    false
-    start
-    s
-    at
-
--- what goes on from a header that is read, or refuses as it does
-abbrev pub onCoff : {A : Type 0} → ReadCoffHeader → (Refusal → A) → (CoffHeader → A) → A
-onCoff (Value h) refused on = on h
-onCoff (Refused k) refused on = refused k
+    -- 6.5: a section count above 96 is 3, before the fields after it are read
+    must Refused (leb (the fields "NumberOfSections" ms) sectionLimit) limit
+    (reading Refused false rest s (at + bytesIn start) (λ ns. Value (headerOf (ms ++ ns)))))

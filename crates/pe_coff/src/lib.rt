@@ -1,6 +1,7 @@
 // The COFF file header of an image, read from lent bytes.
 ghost use mathlib.Core.Path.{_≡_};
 ghost use Rattle.pe_coff.specs.Coff.{readOf};
+use answer::Reason;
 use answer::Refusal;
 use cursor::Cursor;
 use cursor::NextU16;
@@ -24,7 +25,7 @@ pub enum ReadCoffHeader {
     Refused(Refusal),
 }
 
-// The header at `at`; a section count above the limit is refused where it stands.
+// The header at `at`; a section count above the limit is refused before the fields after it are read.
 pub fn read(s: &[u8], at: usize) -> ReadCoffHeader
     ensures { λ r. ⌜ r ≡ readOf (now (s .entry)) at ⌝ }
 {
@@ -38,9 +39,7 @@ pub fn read(s: &[u8], at: usize) -> ReadCoffHeader
     };
     let count = sections.value as usize;
     if pe_section::LIMIT < count {
-        return ReadCoffHeader::Refused(Refusal {
-            number: answer::LIMIT,
-        });
+        return ReadCoffHeader::Refused(answer::refuse(Reason::Limit));
     }
     let time = match sections.next.next_u32(s, false) {
         NextU32::Value(t) => t,

@@ -15,8 +15,8 @@ use Rattle.pe_dos.specs.Dos.{fields, dosHeader, headerOf, whole, refused
 sixty-four-bytes : size dosHeader ≡ 64
 sixty-four-bytes = refl
 
--- "PE offset as a u32 at 0x3C"
-pointer-at-60 : size (take (place "e_lfanew" fields) dosHeader) ≡ 60
+-- the PE pointer is at 0x3C
+pointer-at-60 : size (take (place "e_lfanew" fields) dosHeader) ≡ 0x3C
 pointer-at-60 = refl
 
 -- a header whose PE pointer is 128
@@ -24,7 +24,7 @@ abbrev header : List ℕ
 header = (77 ∷ 90 ∷ []) ++ replicate 58 0 ++ (128 ∷ 0 ∷ 0 ∷ 0 ∷ [])
 
 abbrev numbers : List ℕ
-numbers = (23117 ∷ replicate 29 0) ++ (128 ∷ [])
+numbers = (0x5A4D ∷ replicate 29 0) ++ (128 ∷ [])
 
 read-whole : readOf header 0 ≡ whole numbers
 unfolding readOf must readBy numberAt
@@ -38,7 +38,7 @@ half-a-signature : readOf (77 ∷ []) 0 ≡ refusedBy (refuseOf short)
 unfolding readOf readBy cutOf
 half-a-signature = refl
 
--- the signature is judged before the bytes behind it are missed
+-- the signature is judged before the bytes after it are missed
 wrong-signature : readOf (90 ∷ 77 ∷ []) 0 ≡ refusedBy (refuseOf magic)
 unfolding readOf must readBy numberAt
 wrong-signature = refl

@@ -8,6 +8,7 @@ use native.Mathlib.Omega.{arith}
 use lib.Dec.{T}
 use lib.ListN.{length, getD, take, drop, length-take, length-append, take-append-drop}
 use lib.Seq.{drop-drop}
+use Rattle.answer.specs.Answer.{values}
 use Rattle.answer.proofs.Unique.{same, same-both}
 use Rattle.fields.specs.Number.{Bytes, numberAt}
 use Rattle.fields.specs.Field.{put}
@@ -16,12 +17,14 @@ use Rattle.layout.specs.Layout.{placed, numbersAt, writeBy, Fits}
 use Rattle.layout.proofs.Laws.{read-full}
 use Rattle.layout.proofs.Theorems.{length-written, read-written, written-read, elements-all}
 use Rattle.pe_dos.specs.Dos.{fields, dosHeader, headerOf, numbersOf, dosMagic, whole, readOf, writeOf, writeOut}
+use Rattle.pe_dos.specs.Answers.{answerOutcome, answerReadDosHeader, countReadDosHeader}
 use Rattle.pe_dos.specs.declared.DosHeader.{DosHeader}
-use Rattle.pe_dos.specs.declared.Outcome.the-variants.{Whole}
+use Rattle.pe_dos.specs.declared.Outcome.{Outcome}
+use Rattle.pe_dos.specs.declared.Outcome.the-variants.{Whole, Refused}
 use Rattle.pe_dos.specs.declared.ReadDosHeader.{ReadDosHeader}
 use Rattle.pe_dos.proofs.Laws.{dos-full, dos-told, write-done}
 
--- Each field of the table stands where the one before it ends.
+-- Each field of the table is where the one before it ends.
 pub fields-placed : T (placed 0 fields)
 fields-placed = tt
 
@@ -45,16 +48,19 @@ unfolding numbersAt
 first-number s at = refl
 
 -- A header that was written is read again, whatever precedes and follows it.
-pub found-written : (h : DosHeader) (p q : List ℕ) → Good h → h .signature ≡ dosMagic → readOf (p ++ writeBy false dosHeader (numbersOf h) ++ q) (length p) ≡ record { outcome = Whole; header = h }
+pub found-written : (h : DosHeader) (p q : List ℕ) → Good h → h .signature ≡ dosMagic
+    → readOf (p ++ writeBy false dosHeader (numbersOf h) ++ q) (length p) ≡ record { outcome = Whole; header = h }
 found-written h p q g m =
     let b : List ℕ = writeBy false dosHeader (numbersOf h) in
     let l : length p + 64 ≤ length (p ++ b ++ q) = simp length-append (omega (arith, length-written false dosHeader (numbersOf h))) in
     let n = numbers-written (numbersOf h) p q (g .fits) in
-    let k : numberAt false 2 (p ++ b ++ q) (length p) ≡ dosMagic = first-number (p ++ b ++ q) (length p) ∙ ap (λ (ns : List ℕ). getD ns 0 0) n ∙ m in
+    let k : numberAt false 2 (p ++ b ++ q) (length p) ≡ dosMagic = first-number (p ++ b ++ q) (length p) ∙ ap (λ (ns : List ℕ). getD ns 0 0)
+    n ∙ m in
     sym (dos-full (p ++ b ++ q) (length p) l k) ∙ ap whole n ∙ ap (λ (x : DosHeader). record { outcome = Whole; header = x }) (again h g)
 
 -- In a lent buffer with room for it, too.
-pub read-stored : (o : List ℕ) (at : ℕ) (h : DosHeader) → Good h → h .signature ≡ dosMagic → at + 64 ≤ length o → readOf (writeOut o at h) at ≡ record { outcome = Whole; header = h }
+pub read-stored : (o : List ℕ) (at : ℕ) (h : DosHeader) → Good h → h .signature ≡ dosMagic → at + 64 ≤ length o
+    → readOf (writeOut o at h) at ≡ record { outcome = Whole; header = h }
 unfolding put
 read-stored o at h g m r =
     let b : List ℕ = writeBy false dosHeader (numbersOf h) in
@@ -63,25 +69,42 @@ read-stored o at h g m r =
     rw (← e) (rw k at (found-written h (take at o) (drop (at + length b) o) g m))
 
 -- Bytes that were read as a header are written again ..
-pub written-found : (s : List ℕ) (at : ℕ) (h : DosHeader) → Bytes s → record { outcome = Whole; header = h } ≡ readOf s at → writeBy false dosHeader (numbersOf h) ≡ take 64 (drop at s)
+pub written-found : (s : List ℕ) (at : ℕ) (h : DosHeader) → Bytes s → record { outcome = Whole; header = h } ≡ readOf s at
+    → writeBy false dosHeader (numbersOf h) ≡ take 64 (drop at s)
 unfolding numbersAt
 written-found s at h b e =
     let t = dos-told s at e in
     ap (λ (x : DosHeader). writeBy false dosHeader (numbersOf x)) (t .value) ∙ written-read false dosHeader s at (t .inside) b
 
--- .. and written where they stood, they change nothing.
-pub stored-found : (s : List ℕ) (at : ℕ) (h : DosHeader) → Bytes s → record { outcome = Whole; header = h } ≡ readOf s at → writeOut s at h ≡ s
+-- .. and written where they were, they change nothing.
+pub stored-found : (s : List ℕ) (at : ℕ) (h : DosHeader) → Bytes s → record { outcome = Whole; header = h } ≡ readOf s at
+    → writeOut s at h ≡ s
 unfolding put numbersAt
 stored-found s at h b e =
     let t = dos-told s at e in
     let m : h .signature ≡ dosMagic = ap (λ (x : DosHeader). x .signature) (t .value) ∙ t .magic-is in
     let d : put s at (writeBy false dosHeader (numbersOf h)) ≡ writeOut s at h = write-done s at h m (t .inside) refl .1 in
     let l : length (writeBy false dosHeader (numbersOf h)) ≡ 64 = length-written false dosHeader (numbersOf h) in
-    sym d ∙ rw (l, written-found s at h b e, ← drop-drop 64 at s, append-assoc (take at s) (take 64 (drop at s)) (drop 64 (drop at s)), take-append-drop 64 (drop at s)) (take-append-drop at s)
+    sym d ∙ rw (
+      l,
+      written-found s at h b e,
+      ← drop-drop 64 at s,
+      append-assoc (take at s) (take 64 (drop at s)) (drop 64 (drop at s)),
+      take-append-drop 64 (drop at s),
+    ) (take-append-drop at s)
 
 -- Two answers that meet a promise of this crate are equal.
 pub read-unique : (s : List ℕ) (at : ℕ) {r q : ReadDosHeader} → r ≡ readOf s at → q ≡ readOf s at → r ≡ q
 read-unique s at = same
 
-pub write-unique : (o : List ℕ) (at : ℕ) (h : DosHeader) {r q : WriteBytes} {l k : List ℕ} → (r ≡ writeOf o at h) × (l ≡ writeOut o at h) → (q ≡ writeOf o at h) × (k ≡ writeOut o at h) → (r ≡ q) × (l ≡ k)
+pub write-unique : (o : List ℕ) (at : ℕ) (h : DosHeader) {r q : WriteBytes} {l k : List ℕ} → (r ≡ writeOf o at h) × (l ≡ writeOut o at h)
+    → (q ≡ writeOf o at h) × (k ≡ writeOut o at h) → (r ≡ q) × (l ≡ k)
 write-unique o at h = same-both
+
+-- The answer has as many numbers as it says, zeros where it is refused.
+by-outcome : (o : Outcome) (h : DosHeader) → length (values countReadDosHeader (answerOutcome o h)) ≡ countReadDosHeader
+by-outcome Whole h = refl
+by-outcome (Refused k) h = refl
+
+pub read-count : (a : ReadDosHeader) → length (values countReadDosHeader (answerReadDosHeader a)) ≡ countReadDosHeader
+read-count a = by-outcome (a .outcome) (a .header)

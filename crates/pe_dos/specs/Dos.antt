@@ -1,26 +1,21 @@
--- The DOS header (IMAGE_DOS_HEADER): "64 bytes, signature 0x5A4D, PE offset as a u32 at 0x3C", the least significant byte of each number
--- first.
+-- The DOS header, 64 bytes, the least significant byte of each number first.
 -- Assumes nothing.
-use Prim.Native.String.{String}
 use Prim.Native.Nat.{ℕ, _+_}
 use mathlib.Core.List.{List, [], _∷_, _++_}
 use mathlib.Core.Bool.{false}
-use lib.ListN.{getD, take, drop, replicate}
 use lib.Dec.{eqb}
-use Rattle.answer.specs.Answer.{cutOf, magic}
+use Rattle.answer.specs.Answer.{magic}
 use Rattle.answer.specs.Test.{pick, must}
 use Rattle.answer.specs.declared.Refusal.{Refusal}
 use Rattle.fields.specs.Field.{writeOf as writtenIn, stored}
 use Rattle.fields.specs.declared.WriteBytes.{WriteBytes}
 use Rattle.fields.specs.declared.WriteBytes.the-variants as written
-use Rattle.layout.specs.Layout.{Field, field, many, widths, place, array, elements, readBy, writeBy}
+use Rattle.layout.specs.Layout.{Field, field, many, widths, place, the, upTo, after, bytesIn, elements, reading, writeBy}
 use Rattle.pe_dos.specs.declared.DosHeader.{DosHeader}
-use Rattle.pe_dos.specs.declared.Halves.{Halves}
-use Rattle.pe_dos.specs.declared.Outcome.{Outcome}
 use Rattle.pe_dos.specs.declared.Outcome.the-variants.{Whole, Refused}
 use Rattle.pe_dos.specs.declared.ReadDosHeader.{ReadDosHeader}
 
--- offset, width, name
+-- 4.12: offset, width, name
 abbrev pub fields : List Field
 fields =
     field 0 2 "e_magic"
@@ -47,35 +42,32 @@ fields =
 abbrev pub dosHeader : List ℕ
 dosHeader = widths fields
 
-abbrev pub the : String → List ℕ → ℕ
-the x ns = getD ns (place x fields) 0
-
--- the numbers of the layout, as the header
+-- 4.12: the numbers of the fields, as the header
 abbrev pub headerOf : List ℕ → DosHeader
 headerOf ns =
     record {
-      signature = the "e_magic" ns;
-      «bytes_on_last_page» = the "e_cblp" ns;
-      «pages_in_file» = the "e_cp" ns;
-      relocations = the "e_crlc" ns;
-      «size_of_header_in_paragraphs» = the "e_cparhdr" ns;
-      «minimum_extra_paragraphs_needed» = the "e_minalloc" ns;
-      «maximum_extra_paragraphs_needed» = the "e_maxalloc" ns;
-      «initial_relative_ss» = the "e_ss" ns;
-      «initial_sp» = the "e_sp" ns;
-      checksum = the "e_csum" ns;
-      «initial_ip» = the "e_ip" ns;
-      «initial_relative_cs» = the "e_cs" ns;
-      «file_address_of_relocation_table» = the "e_lfarlc" ns;
-      «overlay_number» = the "e_ovno" ns;
+      signature = the fields "e_magic" ns;
+      «bytes_on_last_page» = the fields "e_cblp" ns;
+      «pages_in_file» = the fields "e_cp" ns;
+      relocations = the fields "e_crlc" ns;
+      «size_of_header_in_paragraphs» = the fields "e_cparhdr" ns;
+      «minimum_extra_paragraphs_needed» = the fields "e_minalloc" ns;
+      «maximum_extra_paragraphs_needed» = the fields "e_maxalloc" ns;
+      «initial_relative_ss» = the fields "e_ss" ns;
+      «initial_sp» = the fields "e_sp" ns;
+      checksum = the fields "e_csum" ns;
+      «initial_ip» = the fields "e_ip" ns;
+      «initial_relative_cs» = the fields "e_cs" ns;
+      «file_address_of_relocation_table» = the fields "e_lfarlc" ns;
+      «overlay_number» = the fields "e_ovno" ns;
       reserved = elements 4 (place "e_res" fields) ns [];
-      «oem_id» = the "e_oemid" ns;
-      «oem_info» = the "e_oeminfo" ns;
+      «oem_id» = the fields "e_oemid" ns;
+      «oem_info» = the fields "e_oeminfo" ns;
       reserved2 = elements 10 (place "e_res2" fields) ns [];
-      «pe_pointer» = the "e_lfanew" ns;
+      «pe_pointer» = the fields "e_lfanew" ns;
     }
 
--- the header, as the numbers of the layout
+-- the header, as the numbers of its fields
 abbrev pub numbersOf : DosHeader → List ℕ
 numbersOf h =
     h .signature
@@ -97,60 +89,37 @@ numbersOf h =
     ∷ h .«oem_info»
     ∷ elements 10 0 (h .reserved2) (h .«pe_pointer» ∷ []))
 
--- "signature 0x5A4D"
+-- 6.1: the number of the first field
 abbrev pub dosMagic : ℕ
-dosMagic = 23117
+dosMagic = 0x5A4D
 
--- a header that is read, and one that is refused: "A refusal returns zeros"
+-- 6.17: a header that is read, and one that is refused, which is all zeros
 abbrev pub whole : List ℕ → ReadDosHeader
 whole ns = record { outcome = Whole; header = headerOf ns }
 
 abbrev pub refusedBy : Refusal → ReadDosHeader
 refusedBy k = record { outcome = Refused k; header = headerOf [] }
 
--- the signature, and the fields behind it
-abbrev pub start : List ℕ
-start = take 1 dosHeader
+-- the signature, and the fields after it
+abbrev pub start : List Field
+start = upTo "e_magic" fields
 
-abbrev pub rest : List ℕ
-rest = drop 1 dosHeader
+abbrev pub rest : List Field
+rest = after "e_magic" fields
 
--- what reading the header at `at` answers: the signature is judged (2) before the fields behind it are missed (1)
+-- 3.6, 6.17: what reading the header at `at` answers: the header, or 1 at the first field that is not whole
 unfoldable pub readOf : List ℕ → ℕ → ReadDosHeader
 readOf s at =
-    readBy
+    reading refusedBy false start s at
     (λ ms.
-    must refusedBy (eqb (the "e_magic" ms) dosMagic) magic
-    (readBy (λ ns. whole (ms ++ ns)) (λ end. refusedBy (cutOf end)) false rest s (at + 2)))
-    (λ end. refusedBy (cutOf end))
-    false
-    start
-    s
-    at
+    -- 6.1: another signature is 2, before the fields after it are read
+    must refusedBy (eqb (the fields "e_magic" ms) dosMagic) magic
+    (reading refusedBy false rest s (at + bytesIn start) (λ ns. whole (ms ++ ns))))
 
--- what goes on from a header that is read, or refuses as it does
-abbrev pub onOutcome : {A : Type 0} → Outcome → (Refusal → A) → A → A
-onOutcome Whole refused on = on
-onOutcome (Refused k) refused on = refused k
-
-abbrev pub onDos : {A : Type 0} → ReadDosHeader → (Refusal → A) → (DosHeader → A) → A
-onDos f refused on = onOutcome (f .outcome) refused (on (f .header))
-
--- the run of 29 numbers of two bytes behind the signature, and the place past them
-unfoldable pub halvesAt : List ℕ → ℕ → Halves
-halvesAt s at =
-    readBy
-    (λ ns. record { outcome = Whole; numbers = ns; next = record { at = at + 58 } })
-    (λ end. record { outcome = Refused (cutOf end); numbers = replicate 29 0; next = record { at = 0 } })
-    false
-    (array 29 2 [])
-    s
-    at
-
--- what writing a header answers: one whose signature would not read back is 2, before there is no room (13)
+-- 6.18: what writing a header answers: another signature is 2, before there is no room (4.9: 13)
 unfoldable pub writeOf : List ℕ → ℕ → DosHeader → WriteBytes
 writeOf o at h = must written.Refused (eqb (h .signature) dosMagic) magic (writtenIn 64 o at)
 
--- and what the bytes are then
+-- 4.9, 6.18: what `o` is after the header was written at `at`: unchanged where it is refused
 unfoldable pub writeOut : List ℕ → ℕ → DosHeader → List ℕ
 writeOut o at h = pick (eqb (h .signature) dosMagic) (stored o at (writeBy false dosHeader (numbersOf h))) o

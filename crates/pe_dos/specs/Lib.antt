@@ -1,3 +1,4 @@
--- `Dos` is the header, `Answers` what each answer stands for.
+-- `Dos` is the header, `Answers` what each answer stands for, `Code` what a private function hands back.
 pub mod Dos
 pub mod Answers
+pub mod Code

@@ -6,7 +6,9 @@ ghost use Prim.Native.Nat.{_+_, _≤_};
 ghost use lib.ListN.{length, take};
 ghost use Rattle.fields.specs.Field.{put};
 ghost use Rattle.layout.specs.Layout.{elements, array, writeBy};
-ghost use Rattle.pe_dos.specs.Dos.{headerOf, numbersOf, refusedBy, readOf, halvesAt, writeOf, writeOut};
+ghost use Rattle.pe_dos.specs.Dos.{headerOf, numbersOf, refusedBy, readOf, writeOf, writeOut};
+ghost use Rattle.pe_dos.specs.Code.{halvesAt};
+use answer::Reason;
 use answer::Refusal;
 use cursor::Cursor;
 use cursor::NextU16;
@@ -40,7 +42,7 @@ pub struct DosHeader {
     pub pe_pointer: u32,
 }
 
-// The header holds arrays, so it stands beside the enum.
+// The header holds arrays, which a case of an enum cannot, so it is beside the outcome.
 pub enum Outcome {
     Whole,
     Refused(Refusal),
@@ -52,7 +54,7 @@ pub struct ReadDosHeader {
     pub header: DosHeader,
 }
 
-// The numbers of two bytes behind the signature, and the place past them.
+// The numbers of two bytes after the signature, and the place past them.
 struct Halves {
     outcome: Outcome,
     numbers: [u16; 29],
@@ -67,9 +69,7 @@ pub fn read(s: &[u8], at: usize) -> ReadDosHeader
         NextU16::Refused(k) => return refused(k),
     };
     if signature.value != SIGNATURE {
-        return refused(Refusal {
-            number: answer::MAGIC,
-        });
+        return refused(answer::refuse(Reason::Magic));
     }
     let halves = halves_at(s, signature.next);
     let outcome = halves.outcome;
@@ -94,9 +94,7 @@ pub fn write(out: &mut [u8], at: usize, header: DosHeader) -> WriteBytes
     ensures { λ r. ⌜ (r ≡ writeOf (now (out .entry)) at header) × (now (out .exit) ≡ writeOut (now (out .entry)) at header) ⌝ }
 {
     if header.signature != SIGNATURE {
-        return WriteBytes::Refused(Refusal {
-            number: answer::MAGIC,
-        });
+        return WriteBytes::Refused(answer::refuse(Reason::Magic));
     }
     if fields::fits(out.len(), at, SIZE) {
         // There is room for the header, so nothing here is refused.
@@ -104,11 +102,10 @@ pub fn write(out: &mut [u8], at: usize, header: DosHeader) -> WriteBytes
         fields::write_u32(out, at + 60, header.pe_pointer, false);
         return WriteBytes::Done;
     }
-    WriteBytes::Refused(Refusal {
-        number: answer::ROOM,
-    })
+    WriteBytes::Refused(answer::refuse(Reason::Room))
 }
 
+// What a refused read hands back: a header of zeros.
 fn refused(k: Refusal) -> ReadDosHeader
     ensures { λ r. ⌜ r ≡ refusedBy k ⌝ }
 {
@@ -118,6 +115,7 @@ fn refused(k: Refusal) -> ReadDosHeader
     }
 }
 
+// The run of numbers of two bytes from a cursor on.
 fn halves_at(s: &[u8], from: Cursor) -> Halves
     ensures { λ r. ⌜ r ≡ halvesAt (now (s .entry)) (from .at) ⌝ }
 {

@@ -12,7 +12,7 @@ use Rattle.layout.specs.Layout.{readBy}
 use Rattle.pe_dos.specs.Dos.{readOf as dosAt}
 use Rattle.pe_coff.specs.Coff.{readOf as coffAt}
 use Rattle.pe_optional.specs.Optional.{needed, fieldsAt, readOf as optionalAt}
-use Rattle.pe_optional.specs.declared.OptionalMagic.the-variants as form
+use Rattle.pe_optional.specs.declared.OptionalMagic.the-variants as magics
 use Rattle.pe_optional.specs.declared.ExceptionDirectory.the-variants as exceptions
 use Rattle.pe_section.specs.Section.{readOf as rowAt}
 use Rattle.pe_header.specs.Header.{pointerIn, coffIn, rowsAt, openOf}
@@ -38,11 +38,11 @@ abbrev opened : ℕ → Header
 opened n =
     record {
       «pe_pointer» = 64;
-      machine = 34404;
+      machine = 0x8664;
       «number_of_sections» = n;
       «optional_offset» = 88;
       «optional_size» = 112;
-      magic = form.Pe32Plus;
+      magic = magics.Pe32Plus;
       «file_alignment» = 512;
       «number_of_directories» = 0;
       exceptions = exceptions.Missing;
@@ -73,11 +73,33 @@ unfolding openOf must pointerIn dosAt coffIn coffAt optionalAt fieldsAt needed f
 size-one-short = refl
 
 -- a PE pointer below 64: the headers lie over the DOS header
-pointer-below-64 : openOf ((77 ∷ 90 ∷ 0 ∷ 0 ∷ 80 ∷ 69 ∷ 0 ∷ 0 ∷ []) ++ coff 0 112 ++ (11 ∷ 2 ∷ []) ++ replicate 30 0 ++ (4 ∷ 0 ∷ 0 ∷ 0 ∷ 0 ∷ 2 ∷ 0 ∷ 0 ∷ []) ++ replicate 72 0) ≡ Value (record { «pe_pointer» = 4; machine = 34404; «number_of_sections» = 0; «optional_offset» = 28; «optional_size» = 112; magic = form.Pe32Plus; «file_alignment» = 512; «number_of_directories» = 0; exceptions = exceptions.Missing; «section_table» = 140 })
+abbrev over : List ℕ
+over =
+    (77 ∷ 90 ∷ 0 ∷ 0 ∷ 80 ∷ 69 ∷ 0 ∷ 0 ∷ [])
+    ++ coff 0 112
+    ++ (11 ∷ 2 ∷ [])
+    ++ replicate 30 0
+    ++ (4 ∷ 0 ∷ 0 ∷ 0 ∷ 0 ∷ 2 ∷ 0 ∷ 0 ∷ [])
+    ++ replicate 72 0
+
+pointer-below-64 : openOf over
+    ≡ Value
+    (record {
+      «pe_pointer» = 4;
+      machine = 0x8664;
+      «number_of_sections» = 0;
+      «optional_offset» = 28;
+      «optional_size» = 112;
+      magic = magics.Pe32Plus;
+      «file_alignment» = 512;
+      «number_of_directories» = 0;
+      exceptions = exceptions.Missing;
+      «section_table» = 140;
+    })
 unfolding openOf must pointerIn dosAt coffIn coffAt optionalAt fieldsAt needed rowsAt fieldOf readBy numberAt
 pointer-below-64 = refl
 
--- "96 sections pass"
+-- 96 sections are accepted
 ninety-six : openOf (image 96 112) ≡ Value (opened 96)
 unfolding openOf must pointerIn dosAt coffIn coffAt optionalAt fieldsAt needed rowsAt rowAt fieldOf readBy numberAt
 ninety-six = refl

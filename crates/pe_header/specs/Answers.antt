@@ -1,10 +1,13 @@
--- What each answer of this crate stands for: the numbers of the header in the order of its fields; the form is its magic number, and the
--- address and size of the exception directory are zeros where it is missing.
+-- What the answer of this crate stands for, how many numbers that is, and how a definition goes on from it. The numbers are those of the
+-- header in the order of its fields; the address and size of the exception directory are zeros where it is missing.
 -- Assumes nothing.
+use Prim.Native.Nat.{ℕ}
 use mathlib.Core.List.{[], _∷_, _++_}
 use Rattle.answer.specs.Answer.{Answer, accepted, refused}
+use Rattle.answer.specs.declared.Refusal.{Refusal}
 use Rattle.pe_optional.specs.Optional.{magicOf}
 use Rattle.pe_optional.specs.Answers.{numbersOf}
+use Rattle.pe_header.specs.declared.Header.{Header}
 use Rattle.pe_header.specs.declared.OpenHeader.{OpenHeader}
 use Rattle.pe_header.specs.declared.OpenHeader.the-variants.{Value, Refused}
 
@@ -22,3 +25,10 @@ answerOpenHeader (Value h) =
     ∷ numbersOf (h .exceptions)
     ++ (h .«section_table» ∷ []))
 answerOpenHeader (Refused k) = refused k
+
+abbrev pub countOpenHeader : ℕ
+countOpenHeader = 11
+
+abbrev pub onOpenHeader : {A : Type 0} → OpenHeader → (Refusal → A) → (Header → A) → A
+onOpenHeader (Value h) refusal on = on h
+onOpenHeader (Refused k) refusal on = refusal k

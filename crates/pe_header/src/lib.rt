@@ -1,6 +1,7 @@
 // The headers of an image: every check of the headers and of the section table, in file order, and the numbers that later doors need.
 ghost use mathlib.Core.Path.{_≡_};
 ghost use Rattle.pe_header.specs.Header.{pointerIn, coffIn, rowsAt, openOf};
+use answer::Reason;
 use answer::Refusal;
 use cursor::Cursor;
 use cursor::NextU32;
@@ -39,9 +40,7 @@ pub fn open(file: &[u8]) -> OpenHeader
     ensures { λ r. ⌜ r ≡ openOf (now (file .entry)) ⌝ }
 {
     if answer::FILE_LIMIT < file.len() {
-        return OpenHeader::Refused(Refusal {
-            number: answer::LIMIT,
-        });
+        return OpenHeader::Refused(answer::refuse(Reason::Limit));
     }
     let pointer = match read_pointer(file) {
         ReadU32::Value(n) => n,
@@ -66,7 +65,7 @@ pub fn open(file: &[u8]) -> OpenHeader
             return OpenHeader::Refused(k);
         }
     }
-    let form = optional.magic;
+    let magic = optional.magic;
     let exceptions = optional.exceptions;
     OpenHeader::Value(Header {
         pe_pointer,
@@ -74,7 +73,7 @@ pub fn open(file: &[u8]) -> OpenHeader
         number_of_sections,
         optional_offset,
         optional_size,
-        magic: form,
+        magic,
         file_alignment: optional.file_alignment,
         number_of_directories: optional.number_of_directories,
         exceptions,
@@ -95,7 +94,7 @@ fn read_pointer(file: &[u8]) -> ReadU32
     }
 }
 
-// The COFF header behind the signature that the PE pointer points to.
+// The COFF header after the signature, which the PE pointer leads to.
 fn read_coff(file: &[u8], pointer: u32) -> pe_coff::ReadCoffHeader
     ensures { λ r. ⌜ r ≡ coffIn (now (file .entry)) pointer ⌝ }
 {
@@ -108,14 +107,12 @@ fn read_coff(file: &[u8], pointer: u32) -> pe_coff::ReadCoffHeader
     if number == SIGNATURE {
         return pe_coff::read(file, at + 4);
     }
-    pe_coff::ReadCoffHeader::Refused(Refusal {
-        number: answer::MAGIC,
-    })
+    pe_coff::ReadCoffHeader::Refused(answer::refuse(Reason::Magic))
 }
 
 // Whether all rows of the section table are there.
 fn read_rows(file: &[u8], table: usize, count: usize) -> CheckRows
-    ensures { λ r. ⌜ r ≡ rowsAt count (now (file .entry)) table ⌝ }
+    ensures { λ r. ⌜ r ≡ rowsAt CheckRows.Refused count (now (file .entry)) table CheckRows.Whole ⌝ }
 {
     let mut left = count;
     let mut at = table;

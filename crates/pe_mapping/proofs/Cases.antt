@@ -8,12 +8,13 @@ use Rattle.answer.specs.Answer.{refuseOf, short, limit, noSection, cutOf}
 use Rattle.answer.specs.Test.{must}
 use Rattle.fields.specs.Number.{numberAt, bytesOf}
 use Rattle.layout.specs.Layout.{readBy, writeBy}
-use Rattle.pe_section.specs.Section.{sectionHeader, rowOf, readOf}
+use Rattle.pe_section.specs.Section.{sectionTable, rowOf, readOf}
 use Rattle.pe_section.specs.declared.SectionTable.{SectionTable}
 use Rattle.pe_mapping.specs.Mapping.{up, powerBelow, powerOfTwo, readableSize, holds, firstOf, findOffsetOf}
+use Rattle.pe_mapping.specs.declared.Sections.{Sections}
 use Rattle.pe_mapping.specs.declared.FindOffset.the-variants.{Value, Refused}
 
--- "A file alignment of zero or not a power of two maps nothing": 1 and 2 ^ 31 are powers of two
+-- 0 and 513 are no powers of two; 1 and 2 ^ 31 are
 alignment-zero : powerOfTwo 0 ≡ false
 unfolding powerBelow
 alignment-zero = refl
@@ -26,7 +27,7 @@ alignment-513 : powerOfTwo 513 ≡ false
 unfolding powerBelow
 alignment-513 = refl
 
-alignment-largest : powerOfTwo 2147483648 ≡ true
+alignment-largest : powerOfTwo 0x80000000 ≡ true
 unfolding powerBelow
 alignment-largest = refl
 
@@ -54,47 +55,51 @@ readable-by-no-raw-size : readableSize 512 (section 4096 4096 0 1024) ≡ 0
 unfolding readableSize up
 readable-by-no-raw-size = refl
 
+-- a table at the start of the file
+abbrev rows : ℕ → ℕ → Sections
+rows count alignment = record { table = 0; count = count; alignment = alignment }
+
 -- the row of a section
 abbrev row : ℕ → ℕ → ℕ → ℕ → List ℕ
-row size address raw pointer = writeBy false sectionHeader (0 ∷ size ∷ address ∷ raw ∷ pointer ∷ [])
+row size address raw pointer = writeBy false sectionTable (0 ∷ size ∷ address ∷ raw ∷ pointer ∷ [])
 
 -- the raw pointer is not rounded in the result
-first-byte : findOffsetOf (row 0 4096 512 1040) 0 1 512 4096 ≡ Value 1040
+first-byte : findOffsetOf (row 0 4096 512 1040) (rows 1 512) 4096 ≡ Value 1040
 unfolding findOffsetOf must powerBelow firstOf readOf readBy numberAt writeBy bytesOf holds readableSize up
 first-byte = refl
 
-last-byte : findOffsetOf (row 0 4096 512 1040) 0 1 512 5119 ≡ Value 2063
+last-byte : findOffsetOf (row 0 4096 512 1040) (rows 1 512) 5119 ≡ Value 2063
 unfolding findOffsetOf must powerBelow firstOf readOf readBy numberAt writeBy bytesOf holds readableSize up
 last-byte = refl
 
-end-of-the-section : findOffsetOf (row 0 4096 512 1040) 0 1 512 5120 ≡ Refused (refuseOf noSection)
+end-of-the-section : findOffsetOf (row 0 4096 512 1040) (rows 1 512) 5120 ≡ Refused (refuseOf noSection)
 unfolding findOffsetOf must powerBelow firstOf readOf readBy numberAt writeBy bytesOf holds readableSize up
 end-of-the-section = refl
 
 -- two sections that hold one address
-first-of-two : findOffsetOf (row 0 4096 512 1024 ++ row 0 4096 512 2048) 0 2 512 4097 ≡ Value 1025
+first-of-two : findOffsetOf (row 0 4096 512 1024 ++ row 0 4096 512 2048) (rows 2 512) 4097 ≡ Value 1025
 unfolding findOffsetOf must powerBelow firstOf readOf readBy numberAt writeBy bytesOf holds readableSize up
 first-of-two = refl
 
 -- a match in an earlier row wins without looking further
-second-row-missing : findOffsetOf (row 0 4096 512 1024) 0 2 512 4097 ≡ Value 1025
+second-row-missing : findOffsetOf (row 0 4096 512 1024) (rows 2 512) 4097 ≡ Value 1025
 unfolding findOffsetOf must powerBelow firstOf readOf readBy numberAt writeBy bytesOf holds readableSize up
 second-row-missing = refl
 
-second-row-needed : findOffsetOf (row 0 4096 512 1024) 0 2 512 8192 ≡ Refused (refuseOf short)
+second-row-needed : findOffsetOf (row 0 4096 512 1024) (rows 2 512) 8192 ≡ Refused (refuseOf short)
 unfolding findOffsetOf must powerBelow firstOf readOf readBy numberAt writeBy bytesOf holds readableSize up cutOf
 second-row-needed = refl
 
 -- all sums are in 64 bits
-past-32-bits : findOffsetOf (row 0 4096 4096 4294967295) 0 1 512 8191 ≡ Value 4294971390
+past-32-bits : findOffsetOf (row 0 4096 4096 4294967295) (rows 1 512) 8191 ≡ Value 4294971390
 unfolding findOffsetOf must powerBelow firstOf readOf readBy numberAt writeBy bytesOf holds readableSize up
 past-32-bits = refl
 
 -- the limit comes before the alignment, and the alignment before the rows
-limit-first : findOffsetOf [] 0 97 0 0 ≡ Refused (refuseOf limit)
+limit-first : findOffsetOf [] (rows 97 0) 0 ≡ Refused (refuseOf limit)
 unfolding findOffsetOf must
 limit-first = refl
 
-alignment-next : findOffsetOf [] 0 1 3 0 ≡ Refused (refuseOf noSection)
+alignment-next : findOffsetOf [] (rows 1 3) 0 ≡ Refused (refuseOf noSection)
 unfolding findOffsetOf must powerBelow
 alignment-next = refl

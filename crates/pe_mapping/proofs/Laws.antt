@@ -13,11 +13,13 @@ use Rattle.answer.specs.Answer.{refuseOf, limit, noSection}
 use Rattle.answer.specs.Test.{pick, fileLimit}
 use Rattle.answer.specs.declared.Refusal.{Refusal}
 use Rattle.answer.proofs.Laws.{must-on, must-off}
-use Rattle.pe_section.specs.Section.{readOf, onRow, sectionLimit}
+use Rattle.pe_section.specs.Section.{readOf, sectionLimit}
+use Rattle.pe_section.specs.Answers.{onReadSectionTable}
 use Rattle.pe_section.specs.declared.SectionTable.{SectionTable}
 use Rattle.pe_section.specs.declared.ReadSectionTable.{ReadSectionTable}
 use Rattle.pe_section.specs.declared.ReadSectionTable.the-variants as found
 use Rattle.pe_mapping.specs.Mapping.{up, powerBelow, powerOfTwo, readableInFile, readableSize, holds, offsetIn, firstOf, findOffsetOf}
+use Rattle.pe_mapping.specs.declared.Sections.{Sections}
 use Rattle.pe_mapping.specs.declared.FindOffset.{FindOffset}
 use Rattle.pe_mapping.specs.declared.FindOffset.the-variants.{Value, Refused}
 
@@ -89,7 +91,8 @@ module _ (alignment : ℕ) (h : SectionTable) where
     unfolding readableSize
     readable-in-file e f = rw (ne-eqb (h .«size_of_raw_data») 0 r, eq-eqb (h .«virtual_size») 0 e) f
 
-    pub readable-least : (h .«virtual_size» ≡ 0 → ⊥) → x ≡ min (readableInFile alignment h) (up 4096 (h .«virtual_size»)) → x ≡ readableSize alignment h
+    pub readable-least : (h .«virtual_size» ≡ 0 → ⊥) → x ≡ min (readableInFile alignment h) (up 4096 (h .«virtual_size»))
+        → x ≡ readableSize alignment h
     unfolding readableSize
     readable-least e f = rw (ne-eqb (h .«size_of_raw_data») 0 r, ne-eqb (h .«virtual_size») 0 e) f
 
@@ -115,72 +118,90 @@ module _ (alignment : ℕ) (h : SectionTable) (address : ℕ) where
 in-file-most : (alignment : ℕ) (h : SectionTable) → readableInFile alignment h ≤ up 4096 (h .«size_of_raw_data»)
 in-file-most alignment h = min-le-right _ _
 
-readable-by : (alignment : ℕ) (h : SectionTable) (b c : Bool) → pick b 0 (pick c (readableInFile alignment h) (min (readableInFile alignment h) (up 4096 (h .«virtual_size»)))) ≤ up 4096 (h .«size_of_raw_data»)
+readable-by : (alignment : ℕ) (h : SectionTable) (b c : Bool)
+    → pick b 0 (pick c (readableInFile alignment h) (min (readableInFile alignment h) (up 4096 (h .«virtual_size»)))) ≤ up 4096 (h .«size_of_raw_data»)
 readable-by alignment h true c = omega arith
 readable-by alignment h false true = in-file-most alignment h
-readable-by alignment h false false = omega (arith, in-file-most alignment h, min-le-left (readableInFile alignment h) (up 4096 (h .«virtual_size»)))
+readable-by alignment h false false = omega
+    (arith, in-file-most alignment h, min-le-left (readableInFile alignment h) (up 4096 (h .«virtual_size»)))
 
 -- no more of a section can be read than its raw size and a page less one byte
 pub readable-most : (alignment : ℕ) (h : SectionTable) → readableSize alignment h < h .«size_of_raw_data» + 4096
 unfolding readableSize
 readable-most alignment h =
-    omega
-    (arith, readable-by alignment h (eqb (h .«size_of_raw_data») 0) (eqb (h .«virtual_size») 0), up-most 4096 (h .«size_of_raw_data») (omega arith))
+    omega (
+      arith,
+      readable-by alignment h (eqb (h .«size_of_raw_data») 0) (eqb (h .«virtual_size») 0),
+      up-most 4096 (h .«size_of_raw_data»)
+          (omega arith),
+    )
 
 -- where a held address lies
 pub record Held (alignment : ℕ) (h : SectionTable) (address : ℕ) : Type 0 where
   pub from : h .«virtual_address» ≤ address
   pub below : address < h .«virtual_address» + readableSize alignment h
 
-held-by : (alignment : ℕ) (h : SectionTable) (address : ℕ) (b c : Bool) → leb (h .«virtual_address») address ≡ b → ltb address (h .«virtual_address» + readableSize alignment h) ≡ c → pick b c false ≡ true → Held alignment h address
+held-by : (alignment : ℕ) (h : SectionTable) (address : ℕ) (b c : Bool) → leb (h .«virtual_address») address ≡ b
+    → ltb address (h .«virtual_address» + readableSize alignment h) ≡ c → pick b c false ≡ true → Held alignment h address
 held-by alignment h address true true e f g = record { from = leb-true _ _ e; below = ltb-true _ _ f }
 held-by alignment h address true false e f g = absurd (let z : _≡_ {A = ℕ} 0 1 = cc in omega arith)
 held-by alignment h address false c e f g = absurd (let z : _≡_ {A = ℕ} 0 1 = cc in omega arith)
 
 pub holds-told : (alignment : ℕ) (h : SectionTable) (address : ℕ) → holds alignment h address ≡ true → Held alignment h address
 unfolding holds
-holds-told alignment h address e = held-by alignment h address (leb (h .«virtual_address») address) (ltb address (h .«virtual_address» + readableSize alignment h)) refl refl e
+holds-told alignment h address e = held-by alignment h address (leb (h .«virtual_address») address)
+    (ltb address (h .«virtual_address» + readableSize alignment h)) refl refl e
 
-turn-of : (n : ℕ) (s : List ℕ) (at alignment address : ℕ) → 0 < n → firstOf n s at alignment address ≡ onRow (readOf s at) Refused (λ h. pick (holds alignment h address) (Value (offsetIn h address)) (firstOf (n - 1) s (at + 40) alignment address))
+-- what a turn of the search does with what reading its row answers, where `n` rows follow it
+abbrev pub turnOf : ReadSectionTable → ℕ → List ℕ → ℕ → ℕ → ℕ → FindOffset
+turnOf r n s at alignment address =
+    onReadSectionTable r Refused
+    (λ h. pick (holds alignment h address) (Value (offsetIn h address)) (firstOf n s (at + 40) alignment address))
+
+turn-of : (n : ℕ) (s : List ℕ) (at alignment address : ℕ) → 0 < n → firstOf n s at alignment address ≡ turnOf (readOf s at) (n - 1) s at alignment address
 unfolding firstOf
 turn-of zero s at alignment address p = absurd (not-suc-le-zero p)
 turn-of (suc n) s at alignment address p = let q : suc n - 1 ≡ n = omega arith in rw q
 
 -- The search over rows, a law for each outcome of a turn.
 module _ (n : ℕ) (s : List ℕ) (at alignment address : ℕ) where
-  turn : 0 < n → firstOf n s at alignment address ≡ onRow (readOf s at) Refused (λ h. pick (holds alignment h address) (Value (offsetIn h address)) (firstOf (n - 1) s (at + 40) alignment address))
-  turn = turn-of n s at alignment address
-
-  pub first-none : n ≤ 0 → Refused (refuseOf noSection) ≡ firstOf n s at alignment address
+  pub first-none : {k : Refusal} → n ≤ 0 → k ≡ refuseOf noSection → Refused k ≡ firstOf n s at alignment address
   unfolding firstOf
-  first-none l = let e : n ≡ 0 = omega arith in rw e
+  first-none l f = let e : n ≡ 0 = omega arith in rw (e, f)
 
   module _ (p : 0 < n) {r : ReadSectionTable} (e : r ≡ readOf s at) where
+    turn : firstOf n s at alignment address ≡ turnOf (readOf s at) (n - 1) s at alignment address
+    turn = turn-of n s at alignment address p
+
     pub first-cut : {k : Refusal} → r ≡ found.Refused k → Refused k ≡ firstOf n s at alignment address
-    first-cut f = rw (turn p, ← e, f)
+    first-cut f = rw (turn, ← e, f)
 
-    pub first-holds : {h : SectionTable} → r ≡ found.Value h → true ≡ holds alignment h address → Value (offsetIn h address) ≡ firstOf n s at alignment address
-    first-holds f t = rw (turn p, ← e, f, ← t)
+    pub first-holds : {h : SectionTable} → r ≡ found.Value h → true ≡ holds alignment h address
+        → Value (offsetIn h address) ≡ firstOf n s at alignment address
+    first-holds f t = rw (turn, ← e, f, ← t)
 
-    pub first-on : {h : SectionTable} → r ≡ found.Value h → false ≡ holds alignment h address → firstOf n s at alignment address ≡ firstOf (n - 1) s (at + 40) alignment address
-    first-on f t = rw (turn p, ← e, f, ← t)
+    pub first-on : {h : SectionTable} → r ≡ found.Value h → false ≡ holds alignment h address
+        → firstOf n s at alignment address ≡ firstOf (n - 1) s (at + 40) alignment address
+    first-on f t = rw (turn, ← e, f, ← t)
 
 -- The offset of an address, a law for each outcome of the checks before the search.
-module _ (s : List ℕ) (table count alignment address : ℕ) where
-  pub offset-long : fileLimit < length s → Refused (refuseOf limit) ≡ findOffsetOf s table count alignment address
+module _ (s : List ℕ) (x : Sections) (address : ℕ) where
+  pub offset-long : {k : Refusal} → fileLimit < length s → k ≡ refuseOf limit → Refused k ≡ findOffsetOf s x address
   unfolding findOffsetOf
-  offset-long l = must-off Refused _ _ _ (lt-leb _ _ l) refl
+  offset-long l e = must-off Refused _ _ _ (lt-leb _ _ l) e
 
   module _ (l : length s ≤ fileLimit) where
-    pub offset-many : sectionLimit < count → Refused (refuseOf limit) ≡ findOffsetOf s table count alignment address
+    pub offset-many : {k : Refusal} → sectionLimit < x .count → k ≡ refuseOf limit → Refused k ≡ findOffsetOf s x address
     unfolding findOffsetOf
-    offset-many m = must-on Refused _ _ _ (le-leb _ _ l) (must-off Refused _ _ _ (lt-leb _ _ m) refl)
+    offset-many m e = must-on Refused _ _ _ (le-leb _ _ l) (must-off Refused _ _ _ (lt-leb _ _ m) e)
 
-    module _ (m : count ≤ sectionLimit) where
-      pub offset-unaligned : powerOfTwo alignment ≡ false → Refused (refuseOf noSection) ≡ findOffsetOf s table count alignment address
+    module _ (m : x .count ≤ sectionLimit) where
+      pub offset-unaligned : {k : Refusal} → powerOfTwo (x .alignment) ≡ false → k ≡ refuseOf noSection
+          → Refused k ≡ findOffsetOf s x address
       unfolding findOffsetOf
-      offset-unaligned p = must-on Refused _ _ _ (le-leb _ _ l) (must-on Refused _ _ _ (le-leb _ _ m) (must-off Refused _ _ _ p refl))
+      offset-unaligned p e = must-on Refused _ _ _ (le-leb _ _ l) (must-on Refused _ _ _ (le-leb _ _ m) (must-off Refused _ _ _ p e))
 
-      pub offset-first : {x : FindOffset} → powerOfTwo alignment ≡ true → x ≡ firstOf count s table alignment address → x ≡ findOffsetOf s table count alignment address
+      pub offset-first : {r : FindOffset} → powerOfTwo (x .alignment) ≡ true
+          → r ≡ firstOf (x .count) s (x .table) (x .alignment) address → r ≡ findOffsetOf s x address
       unfolding findOffsetOf
       offset-first p e = must-on Refused _ _ _ (le-leb _ _ l) (must-on Refused _ _ _ (le-leb _ _ m) (must-on Refused _ _ _ p e))

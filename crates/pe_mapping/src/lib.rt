@@ -1,10 +1,18 @@
 // An address to its offset in the file, by the section table.
 ghost use mathlib.Core.Path.{_≡_};
-ghost use Prim.Native.Nat.{_+_, _<_, _≤_, min};
+ghost use Prim.Native.Nat.{_+_, _^_, _<_, min};
 ghost use Rattle.pe_mapping.specs.Mapping.{up, powerOfTwo, readableSize, holds, firstOf, findOffsetOf};
+use answer::Reason;
 use answer::Refusal;
 use pe_section::ReadSectionTable;
 use pe_section::SectionTable;
+
+// Where the section table is, how many rows it has, and the file alignment.
+pub struct Sections {
+    pub table: usize,
+    pub count: usize,
+    pub alignment: u32,
+}
 
 pub enum FindOffset {
     // The offset, which may lie past the file.
@@ -17,34 +25,29 @@ const PAGE: u64 = 4096;
 // The sections' raw pointers are rounded down to a multiple of this.
 const SECTOR: u64 = 512;
 
-// The file offset of an address, by the table that starts at `table` and has `count` rows.
-pub fn find_offset(
-    file: &[u8],
-    table: usize,
-    count: usize,
-    alignment: u32,
-    address: u64,
-) -> FindOffset
-    ensures { λ r. ⌜ r ≡ findOffsetOf (now (file .entry)) table count alignment address ⌝ }
+// The file offset of an address, by the section table.
+pub fn find_offset(file: &[u8], sections: Sections, address: u64) -> FindOffset
+    ensures { λ r. ⌜ r ≡ findOffsetOf (now (file .entry)) sections address ⌝ }
 {
     if answer::FILE_LIMIT < file.len() {
-        return FindOffset::Refused(Refusal {
-            number: answer::LIMIT,
-        });
+        return FindOffset::Refused(answer::refuse(Reason::Limit));
     }
-    if pe_section::LIMIT < count {
-        return FindOffset::Refused(Refusal {
-            number: answer::LIMIT,
-        });
+    if pe_section::LIMIT < sections.count {
+        return FindOffset::Refused(answer::refuse(Reason::Limit));
     }
-    if power_of_two(alignment) {
-        return first(file, table, count, alignment, address);
+    if power_of_two(sections.alignment) {
+        return first(
+            file,
+            sections.table,
+            sections.count,
+            sections.alignment,
+            address,
+        );
     }
-    FindOffset::Refused(Refusal {
-        number: answer::NO_SECTION,
-    })
+    FindOffset::Refused(answer::refuse(Reason::NoSection))
 }
 
+// The offset by the first of `count` rows that holds the address.
 fn first(file: &[u8], table: usize, count: usize, alignment: u32, address: u64) -> FindOffset
     requires { ⌜ 0 < alignment ⌝ }
     ensures { λ r. ⌜ r ≡ firstOf count (now (file .entry)) table alignment address ⌝ }
@@ -67,11 +70,10 @@ fn first(file: &[u8], table: usize, count: usize, alignment: u32, address: u64) 
         left -= 1;
         at += pe_section::SIZE;
     }
-    FindOffset::Refused(Refusal {
-        number: answer::NO_SECTION,
-    })
+    FindOffset::Refused(answer::refuse(Reason::NoSection))
 }
 
+// Whether the section holds the address.
 fn inside(h: SectionTable, alignment: u32, address: u64) -> bool
     requires { ⌜ 0 < alignment ⌝ }
     ensures { λ r. ⌜ r ≡ holds alignment h address ⌝ }
@@ -106,8 +108,9 @@ fn readable(h: SectionTable, alignment: u32) -> u64
     least(kept, round_up(virt, PAGE))
 }
 
+// Rounded up to a multiple of `m`.
 fn round_up(n: u64, m: u64) -> u64
-    requires { ⌜ (0 < m) × (n + m ≤ 18446744073709551615) ⌝ }
+    requires { ⌜ (0 < m) × (n + m < 2 ^ 64) ⌝ }
     ensures { λ r. ⌜ r ≡ up m n ⌝ }
 {
     (n + (m - 1)) / m * m
@@ -126,7 +129,7 @@ fn power_of_two(n: u32) -> bool
     ensures { λ r. ⌜ r ≡ powerOfTwo n ⌝ }
 {
     let wide = n as u64;
-    let mut power: u64 = 4294967296;
+    let mut power: u64 = 0x1_0000_0000;
     let mut left: u32 = 32;
     while 0 < left {
         power = power / 2;

@@ -8,8 +8,9 @@ use Rattle.answer.specs.Answer.{refuseOf, short, magic, contradiction, cutOf}
 use Rattle.answer.specs.Test.{must}
 use Rattle.fields.specs.Number.{numberAt}
 use Rattle.fields.specs.Field.{readOf as fieldOf}
-use Rattle.pe_optional.specs.Optional.{needed, fieldsAt, readOf}
+use Rattle.pe_optional.specs.Optional.{needed, headerOf, fieldsAt, readOf}
 use Rattle.pe_optional.specs.declared.OptionalMagic.the-variants.{Pe32, Pe32Plus}
+use Rattle.pe_optional.specs.declared.ExceptionDirectory.{ExceptionDirectory}
 use Rattle.pe_optional.specs.declared.ExceptionDirectory.the-variants as exceptions
 use Rattle.pe_optional.specs.declared.ReadOptionalHeader.the-variants.{Value, Refused}
 
@@ -31,16 +32,19 @@ narrow n = header 1 52 n
 abbrev wide : ℕ → List ℕ
 wide n = header 2 68 n
 
-in-pe32 : readOf (narrow 16) 0 128 ≡ Value (record { magic = Pe32; «file_alignment» = 512; «number_of_directories» = 16; exceptions = exceptions.Given (record { «virtual_address» = 12288; size = 24 }) })
+abbrev directory : ExceptionDirectory
+directory = exceptions.Given (record { «virtual_address» = 12288; size = 24 })
+
+in-pe32 : readOf (narrow 16) 0 128 ≡ Value (headerOf Pe32 512 16 directory)
 unfolding readOf fieldsAt needed fieldOf numberAt must
 in-pe32 = refl
 
-in-pe32-plus : readOf (wide 16) 0 144 ≡ Value (record { magic = Pe32Plus; «file_alignment» = 512; «number_of_directories» = 16; exceptions = exceptions.Given (record { «virtual_address» = 12288; size = 24 }) })
+in-pe32-plus : readOf (wide 16) 0 144 ≡ Value (headerOf Pe32Plus 512 16 directory)
 unfolding readOf fieldsAt needed fieldOf numberAt must
 in-pe32-plus = refl
 
 -- three directories: none of them is needed
-three-directories : readOf (take 112 (wide 3)) 0 112 ≡ Value (record { magic = Pe32Plus; «file_alignment» = 512; «number_of_directories» = 3; exceptions = exceptions.Missing })
+three-directories : readOf (take 112 (wide 3)) 0 112 ≡ Value (headerOf Pe32Plus 512 3 exceptions.Missing)
 unfolding readOf fieldsAt needed fieldOf numberAt must
 three-directories = refl
 

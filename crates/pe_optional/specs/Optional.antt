@@ -1,6 +1,7 @@
--- Microsoft, "PE Format", Optional Header (Image Only): the fields that later doors need, by their offsets in the header.
+-- The fields of the optional header that later doors need, by their offsets in it, the least significant byte of each number first
+-- (Microsoft, "PE Format", Optional Header (Image Only)).
 -- Assumes nothing.
-use Prim.Native.Nat.{ℕ, _+_, _*_}
+use Prim.Native.Nat.{ℕ, _+_}
 use mathlib.Core.List.{List}
 use mathlib.Core.Bool.{false}
 use lib.Dec.{leb, eqb}
@@ -10,67 +11,66 @@ use Rattle.answer.specs.declared.Refusal.{Refusal}
 use Rattle.fields.specs.Field.{readOf as fieldOf}
 use Rattle.pe_optional.specs.declared.OptionalMagic.{OptionalMagic}
 use Rattle.pe_optional.specs.declared.OptionalMagic.the-variants.{Pe32, Pe32Plus}
+use Rattle.pe_optional.specs.declared.ExceptionDirectory.{ExceptionDirectory}
 use Rattle.pe_optional.specs.declared.ExceptionDirectory.the-variants as exceptions
 use Rattle.pe_optional.specs.declared.OptionalHeader.{OptionalHeader}
 use Rattle.pe_optional.specs.declared.ReadOptionalHeader.{ReadOptionalHeader}
 use Rattle.pe_optional.specs.declared.ReadOptionalHeader.the-variants.{Value, Refused}
 
--- "Optional magic 0x10B or 0x20B."
+-- 6.7: the magic number of each form
 abbrev pub magicOf : OptionalMagic → ℕ
-magicOf Pe32 = 267
-magicOf Pe32Plus = 523
+magicOf Pe32 = 0x10B
+magicOf Pe32Plus = 0x20B
 
--- "File alignment at optional offset 36."
+-- 4.14: the offset of FileAlignment
 abbrev pub alignmentAt : ℕ
 alignmentAt = 36
 
--- "Directory count at 92 (PE32) or 108 (PE32+) .."
+-- 4.14, 6.8: the offset of NumberOfRvaAndSizes, by the magic
 abbrev pub countAt : OptionalMagic → ℕ
 countAt Pe32 = 92
 countAt Pe32Plus = 108
 
--- ".. directories of 8 bytes from 96 or 112."
-abbrev pub tableAt : OptionalMagic → ℕ
-tableAt Pe32 = 96
-tableAt Pe32Plus = 112
+-- 4.14, 6.8: the offset of the exception directory's address, by the magic; its size follows, 4 bytes later
+abbrev pub exceptionAt : OptionalMagic → ℕ
+exceptionAt Pe32 = 120
+exceptionAt Pe32Plus = 136
 
--- "The exception directory has index 3": its address, and its size behind that
+-- 6.10: the index of the exception directory
 abbrev pub exceptionIndex : ℕ
 exceptionIndex = 3
 
-abbrev pub exceptionAt : OptionalMagic → ℕ
-exceptionAt form = tableAt form + 8 * exceptionIndex
-
--- A needed field of 4 bytes at an offset of the header, whose bytes must be there (1): "The needed optional fields must lie inside the
--- stated optional size, else 4."
+-- 6.9: a needed field of 4 bytes at an offset of the header goes to `on`: its bytes must be there (1), and it must end inside the stated
+-- size (4)
 unfoldable pub needed : {A : Type 0} → (Refusal → A) → List ℕ → ℕ → ℕ → ℕ → (ℕ → A) → A
-needed refused s at size offset on =
-    fieldOf (λ n. must refused (leb (offset + 4) size) contradiction (on n)) refused false 4 s (at + offset)
+needed refusal s at size offset on =
+    fieldOf (λ n. must refusal (leb (offset + 4) size) contradiction (on n)) refusal false 4 s (at + offset)
 
--- the fields of a header of that form, from its magic number on, which must lie inside the stated size too
+-- the header with those fields
+abbrev pub headerOf : OptionalMagic → ℕ → ℕ → ExceptionDirectory → OptionalHeader
+headerOf m alignment count directory =
+    record { magic = m; «file_alignment» = alignment; «number_of_directories» = count; exceptions = directory }
+
+-- the fields of a header with that magic
 unfoldable pub fieldsAt : List ℕ → ℕ → ℕ → OptionalMagic → ReadOptionalHeader
-fieldsAt s at size form =
+fieldsAt s at size m =
+    -- 6.7: the magic lies inside the stated size
     must Refused (leb 2 size) contradiction
+    -- 6.9: the needed fields, in this order
     (needed Refused s at size alignmentAt
     (λ alignment.
-    needed Refused s at size (countAt form)
+    needed Refused s at size (countAt m)
     (λ count.
-    -- "if the count is 3 or less" there is no exception directory, and nothing more is needed
+    -- 6.10: with 3 directories or fewer there is no exception directory, and nothing more is needed
     pick (leb count exceptionIndex)
-    (Value (record { magic = form; «file_alignment» = alignment; «number_of_directories» = count; exceptions = exceptions.Missing }))
-    (needed Refused s at size (exceptionAt form)
+    (Value (headerOf m alignment count exceptions.Missing))
+    (needed Refused s at size (exceptionAt m)
     (λ address.
-    needed Refused s at size (exceptionAt form + 4)
+    needed Refused s at size (exceptionAt m + 4)
     (λ length.
-    Value
-    (record {
-      magic = form;
-      «file_alignment» = alignment;
-      «number_of_directories» = count;
-      exceptions = exceptions.Given (record { «virtual_address» = address; size = length });
-    })))))))
+    Value (headerOf m alignment count (exceptions.Given (record { «virtual_address» = address; size = length })))))))))
 
--- what reading the header at `at`, whose stated size is `size`, answers: on the magic number, 1, 2 and 4 in this order
+-- 6.7, 6.19: what reading the header at `at`, whose stated size is `size`, answers: on the magic number, 1, 2 and 4 in this order
 unfoldable pub readOf : List ℕ → ℕ → ℕ → ReadOptionalHeader
 readOf s at size =
     fieldOf
@@ -83,8 +83,3 @@ readOf s at size =
     2
     s
     at
-
--- what goes on from a header that is read, or refuses as it does
-abbrev pub onOptional : {A : Type 0} → ReadOptionalHeader → (Refusal → A) → (OptionalHeader → A) → A
-onOptional (Value h) refused on = on h
-onOptional (Refused k) refused on = refused k

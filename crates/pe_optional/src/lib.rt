@@ -1,6 +1,7 @@
 // The fields of the optional header that later doors need, read from lent bytes inside its stated size.
 ghost use mathlib.Core.Path.{_≡_};
-ghost use Rattle.pe_optional.specs.Optional.{countAt, tableAt, needed, fieldsAt, readOf};
+ghost use Rattle.pe_optional.specs.Optional.{countAt, exceptionAt, needed, fieldsAt, readOf};
+use answer::Reason;
 use answer::Refusal;
 use cursor::Cursor;
 use cursor::NextU16;
@@ -13,12 +14,10 @@ const PE32_PLUS: u16 = 0x20B;
 
 const FILE_ALIGNMENT: usize = 36;
 
-// The index of the exception directory, and its offset behind the first: a directory has 8 bytes.
+// The index of the exception directory.
 const EXCEPTION_INDEX: u32 = 3;
 
-const EXCEPTION_OFFSET: usize = 24;
-
-const LAST: usize = 18446744073709551615;
+const LAST: usize = 0xFFFF_FFFF_FFFF_FFFF;
 
 // Which form of the header the magic number names.
 pub enum OptionalMagic {
@@ -60,37 +59,33 @@ pub fn read(s: &[u8], at: usize, size: usize) -> ReadOptionalHeader
     };
     let number = magic.value;
     if number == PE32 {
-        return read_form(s, at, size, OptionalMagic::Pe32);
+        return read_fields(s, at, size, OptionalMagic::Pe32);
     }
     if number == PE32_PLUS {
-        return read_form(s, at, size, OptionalMagic::Pe32Plus);
+        return read_fields(s, at, size, OptionalMagic::Pe32Plus);
     }
-    ReadOptionalHeader::Refused(Refusal {
-        number: answer::MAGIC,
-    })
+    ReadOptionalHeader::Refused(answer::refuse(Reason::Magic))
 }
 
-// The fields behind the magic number.
-fn read_form(s: &[u8], at: usize, size: usize, form: OptionalMagic) -> ReadOptionalHeader
-    ensures { λ r. ⌜ r ≡ fieldsAt (now (s .entry)) at size form ⌝ }
+// The fields after the magic number.
+fn read_fields(s: &[u8], at: usize, size: usize, magic: OptionalMagic) -> ReadOptionalHeader
+    ensures { λ r. ⌜ r ≡ fieldsAt (now (s .entry)) at size magic ⌝ }
 {
-    let exception = table_at(form) + EXCEPTION_OFFSET;
+    let exception = exception_at(magic);
     if size < 2 {
-        return ReadOptionalHeader::Refused(Refusal {
-            number: answer::CONTRADICTION,
-        });
+        return ReadOptionalHeader::Refused(answer::refuse(Reason::Contradiction));
     }
     let alignment = match read_needed(s, at, size, FILE_ALIGNMENT) {
         ReadU32::Value(n) => n,
         ReadU32::Refused(k) => return ReadOptionalHeader::Refused(k),
     };
-    let count = match read_needed(s, at, size, count_at(form)) {
+    let count = match read_needed(s, at, size, count_at(magic)) {
         ReadU32::Value(n) => n,
         ReadU32::Refused(k) => return ReadOptionalHeader::Refused(k),
     };
     if count <= EXCEPTION_INDEX {
         return ReadOptionalHeader::Value(OptionalHeader {
-            magic: form,
+            magic,
             file_alignment: alignment,
             number_of_directories: count,
             exceptions: ExceptionDirectory::Missing,
@@ -105,7 +100,7 @@ fn read_form(s: &[u8], at: usize, size: usize, form: OptionalMagic) -> ReadOptio
         ReadU32::Refused(k) => return ReadOptionalHeader::Refused(k),
     };
     ReadOptionalHeader::Value(OptionalHeader {
-        magic: form,
+        magic,
         file_alignment: alignment,
         number_of_directories: count,
         exceptions: ExceptionDirectory::Given(DataDirectory {
@@ -115,21 +110,23 @@ fn read_form(s: &[u8], at: usize, size: usize, form: OptionalMagic) -> ReadOptio
     })
 }
 
-fn count_at(form: OptionalMagic) -> usize
-    ensures { λ r. ⌜ r ≡ countAt form ⌝ }
+// The offset of the number of directories.
+fn count_at(magic: OptionalMagic) -> usize
+    ensures { λ r. ⌜ r ≡ countAt magic ⌝ }
 {
-    match form {
+    match magic {
         OptionalMagic::Pe32 => 92,
         OptionalMagic::Pe32Plus => 108,
     }
 }
 
-fn table_at(form: OptionalMagic) -> usize
-    ensures { λ r. ⌜ r ≡ tableAt form ⌝ }
+// The offset of the exception directory.
+fn exception_at(magic: OptionalMagic) -> usize
+    ensures { λ r. ⌜ r ≡ exceptionAt magic ⌝ }
 {
-    match form {
-        OptionalMagic::Pe32 => 96,
-        OptionalMagic::Pe32Plus => 112,
+    match magic {
+        OptionalMagic::Pe32 => 120,
+        OptionalMagic::Pe32Plus => 136,
     }
 }
 
@@ -137,11 +134,9 @@ fn table_at(form: OptionalMagic) -> usize
 fn read_needed(s: &[u8], at: usize, size: usize, offset: usize) -> ReadU32
     ensures { λ r. ⌜ r ≡ needed ReadU32.Refused (now (s .entry)) at size offset ReadU32.Value ⌝ }
 {
-    // A field past 64 bits is past the bytes.
+    // A field past 64 bits is in no file.
     if LAST - offset < at {
-        return ReadU32::Refused(Refusal {
-            number: answer::SHORT,
-        });
+        return ReadU32::Refused(answer::beyond());
     }
     let field = match Cursor::new(at + offset).next_u32(s, false) {
         NextU32::Value(t) => t,
@@ -150,7 +145,5 @@ fn read_needed(s: &[u8], at: usize, size: usize, offset: usize) -> ReadU32
     if fields::fits(size, offset, 4) {
         return ReadU32::Value(field.value);
     }
-    ReadU32::Refused(Refusal {
-        number: answer::CONTRADICTION,
-    })
+    ReadU32::Refused(answer::refuse(Reason::Contradiction))
 }

@@ -5,15 +5,15 @@ use mathlib.Core.List.{List, [], _∷_, _++_}
 use mathlib.Core.Bool.{false}
 use Prim.Native.Nat.{ℕ}
 use lib.ListN.{replicate, take}
-use Rattle.answer.specs.Answer.{refuseOf, short, limit, notFound, cutOf}
+use Rattle.answer.specs.Answer.{refuseOf, short, limit, notFound, cutOf, beyondOf}
 use Rattle.answer.specs.Test.{must}
 use Rattle.fields.specs.Number.{numberAt, bytesOf}
 use Rattle.layout.specs.Layout.{readBy, size}
-use Rattle.pe_section.specs.Section.{sectionHeader, readOf, getRowOf}
+use Rattle.pe_section.specs.Section.{sectionTable, readOf, getRowOf}
 use Rattle.pe_section.specs.declared.SectionTable.{SectionTable}
 use Rattle.pe_section.specs.declared.ReadSectionTable.the-variants.{Value, Refused}
 
-forty-bytes : size sectionHeader ≡ 40
+forty-bytes : size sectionTable ≡ 40
 forty-bytes = refl
 
 -- the row of a section ".text"
@@ -67,7 +67,7 @@ unfolding getRowOf must
 index-at-the-count = refl
 
 table-past-the-file : getRowOf text 18446744073709551615 96 95 ≡ Refused (refuseOf short)
-unfolding getRowOf must readOf readBy cutOf
+unfolding getRowOf must readOf readBy cutOf beyondOf
 table-past-the-file = refl
 
 -- a count above the limit comes before an index past it and before the bytes

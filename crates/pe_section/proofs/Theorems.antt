@@ -8,7 +8,7 @@ use Prim.Native.Nat.{ℕ, _+_, _*_, _≤_, _<_}
 use native.Mathlib.Omega.{arith}
 use lib.Dec.{T}
 use lib.ListN.{length, take, drop}
-use Rattle.answer.specs.Answer.{refuseOf, limit}
+use Rattle.answer.specs.Answer.{refuseOf, limit, values}
 use Rattle.answer.specs.Test.{fileLimit}
 use Rattle.answer.proofs.Unique.{same}
 use Rattle.fields.specs.Number.{bytesOf, Bytes}
@@ -16,12 +16,13 @@ use Rattle.fields.proofs.Laws.{le-or-lt}
 use Rattle.fields.proofs.Number.{bytes-read}
 use Rattle.layout.specs.Layout.{placed, numbersAt}
 use Rattle.pe_section.specs.Section.{nameBytesOf, fields, readOf, getRowOf}
+use Rattle.pe_section.specs.Answers.{answerReadSectionTable, countReadSectionTable}
 use Rattle.pe_section.specs.declared.SectionTable.{SectionTable}
 use Rattle.pe_section.specs.declared.ReadSectionTable.{ReadSectionTable}
 use Rattle.pe_section.specs.declared.ReadSectionTable.the-variants.{Value, Refused}
 use Rattle.pe_section.proofs.Laws.{row-whole, section-long, section-many, section-row}
 
--- Each field of the table stands where the one before it ends.
+-- Each field of the table is where the one before it ends.
 pub fields-placed : T (placed 0 fields)
 fields-placed = tt
 
@@ -36,16 +37,17 @@ name-is s at h b e =
     let w = row-whole s at e refl in
     ap (λ (g : SectionTable). bytesOf false 8 (g .name)) (w .value) ∙ bytes-read false 8 s at (omega (arith, w .inside)) b
 
--- "96 sections pass .."
-pub ninety-six : (s : List ℕ) (table index : ℕ) → length s ≤ fileLimit → index < 96 → readOf s (table + 40 * index) ≡ getRowOf s table 96 index
+-- With 96 sections, every row is the one that is read at its place.
+pub ninety-six : (s : List ℕ) (table index : ℕ) → length s ≤ fileLimit → index < 96
+    → readOf s (table + 40 * index) ≡ getRowOf s table 96 index
 ninety-six s table index l i = section-row s table 96 index l (omega arith) i refl
 
--- ".. 97 is 3."
+-- A count of 97 is 3, whatever the file and the index.
 pub ninety-seven : (s : List ℕ) (table index : ℕ) → Refused (refuseOf limit) ≡ getRowOf s table 97 index
 ninety-seven s table index =
     ⊎-elim
-    (λ l. section-many s table 97 index l (omega arith))
-    (λ l. section-long s table 97 index l)
+    (λ l. section-many s table 97 index l (omega arith) refl)
+    (λ l. section-long s table 97 index l refl)
     (le-or-lt (length s) fileLimit)
 
 -- Two answers that meet a promise of this crate are equal.
@@ -55,5 +57,11 @@ name-bytes-unique h = same
 pub read-unique : (s : List ℕ) (at : ℕ) {r q : ReadSectionTable} → r ≡ readOf s at → q ≡ readOf s at → r ≡ q
 read-unique s at = same
 
-pub get-row-unique : (s : List ℕ) (table count index : ℕ) {r q : ReadSectionTable} → r ≡ getRowOf s table count index → q ≡ getRowOf s table count index → r ≡ q
+pub get-row-unique : (s : List ℕ) (table count index : ℕ) {r q : ReadSectionTable} → r ≡ getRowOf s table count index
+    → q ≡ getRowOf s table count index → r ≡ q
 get-row-unique s table count index = same
+
+-- The answer has as many numbers as it says, zeros where it is refused.
+pub read-count : (a : ReadSectionTable) → length (values countReadSectionTable (answerReadSectionTable a)) ≡ countReadSectionTable
+read-count (Value h) = refl
+read-count (Refused k) = refl

@@ -1,22 +1,19 @@
--- Microsoft, "PE Format", Section Table (Section Headers): "Each row of the section table is, in effect, a section header. This table
--- immediately follows the optional header, if any." A row has 40 bytes, the least significant byte of each number first.
+-- A row of the section table, 40 bytes, the least significant byte of each number first (Microsoft, "PE Format", Section Table (Section
+-- Headers)); and the row at an index of a table.
 -- Assumes nothing.
-use Prim.Native.String.{String}
 use Prim.Native.Nat.{ℕ, _+_, _*_}
 use mathlib.Core.List.{List, [], _∷_}
 use mathlib.Core.Bool.{false}
-use lib.ListN.{getD}
 use lib.Dec.{leb, ltb}
-use Rattle.answer.specs.Answer.{cutOf, limit, notFound}
+use Rattle.answer.specs.Answer.{limit, notFound}
 use Rattle.answer.specs.Test.{must, inLimit}
-use Rattle.answer.specs.declared.Refusal.{Refusal}
 use Rattle.fields.specs.Number.{bytesOf}
-use Rattle.layout.specs.Layout.{Field, field, widths, place, readBy}
+use Rattle.layout.specs.Layout.{Field, field, widths, the, reading}
 use Rattle.pe_section.specs.declared.SectionTable.{SectionTable}
 use Rattle.pe_section.specs.declared.ReadSectionTable.{ReadSectionTable}
 use Rattle.pe_section.specs.declared.ReadSectionTable.the-variants.{Value, Refused}
 
--- offset, size, name
+-- 4.15: offset, width, name
 abbrev pub fields : List Field
 fields =
     field 0 8 "Name"
@@ -31,29 +28,26 @@ fields =
     ∷ field 36 4 "Characteristics"
     ∷ []
 
-abbrev pub sectionHeader : List ℕ
-sectionHeader = widths fields
+abbrev pub sectionTable : List ℕ
+sectionTable = widths fields
 
-abbrev pub the : String → List ℕ → ℕ
-the x ns = getD ns (place x fields) 0
-
--- the numbers of the layout, as the row; the name is the number that its eight bytes write
+-- the numbers of the fields, as the row; 7.2: the name is the number that its eight bytes write
 abbrev pub rowOf : List ℕ → SectionTable
 rowOf ns =
     record {
-      name = the "Name" ns;
-      «virtual_size» = the "VirtualSize" ns;
-      «virtual_address» = the "VirtualAddress" ns;
-      «size_of_raw_data» = the "SizeOfRawData" ns;
-      «pointer_to_raw_data» = the "PointerToRawData" ns;
-      «pointer_to_relocations» = the "PointerToRelocations" ns;
-      «pointer_to_linenumbers» = the "PointerToLinenumbers" ns;
-      «number_of_relocations» = the "NumberOfRelocations" ns;
-      «number_of_linenumbers» = the "NumberOfLinenumbers" ns;
-      characteristics = the "Characteristics" ns;
+      name = the fields "Name" ns;
+      «virtual_size» = the fields "VirtualSize" ns;
+      «virtual_address» = the fields "VirtualAddress" ns;
+      «size_of_raw_data» = the fields "SizeOfRawData" ns;
+      «pointer_to_raw_data» = the fields "PointerToRawData" ns;
+      «pointer_to_relocations» = the fields "PointerToRelocations" ns;
+      «pointer_to_linenumbers» = the fields "PointerToLinenumbers" ns;
+      «number_of_relocations» = the fields "NumberOfRelocations" ns;
+      «number_of_linenumbers» = the fields "NumberOfLinenumbers" ns;
+      characteristics = the fields "Characteristics" ns;
     }
 
--- the row, as the numbers of the layout
+-- the row, as the numbers of its fields
 abbrev pub numbersOf : SectionTable → List ℕ
 numbersOf r =
     r .name
@@ -68,28 +62,26 @@ numbersOf r =
     ∷ r .characteristics
     ∷ []
 
--- what reading the row at `at` answers: the row, or 1 at the first field that is not whole
+-- 3.6, 7.14: what reading the row at `at` answers: the row, or 1 at the first field that is not whole
 unfoldable pub readOf : List ℕ → ℕ → ReadSectionTable
-readOf s at = readBy (λ ns. Value (rowOf ns)) (λ end. Refused (cutOf end)) false sectionHeader s at
+readOf s at = reading Refused false fields s at (λ ns. Value (rowOf ns))
 
--- what goes on from a row that is read, or refuses as it does
-abbrev pub onRow : {A : Type 0} → ReadSectionTable → (Refusal → A) → (SectionTable → A) → A
-onRow (Value h) refused on = on h
-onRow (Refused k) refused on = refused k
-
--- the eight bytes of a row's name
+-- 7.2: the eight bytes of a row's name, in file order
 abbrev pub nameBytesOf : SectionTable → List ℕ
 nameBytesOf h = bytesOf false 8 (h .name)
 
--- "Sections: 96."
+-- 1.2: an image has at most 96 sections
 abbrev pub sectionLimit : ℕ
 sectionLimit = 96
 
--- the row at an index of the table that starts at `table` and has `count` rows
+-- 7.3: the row at an index of the table that starts at `table` and has `count` rows
 unfoldable pub getRowOf : List ℕ → ℕ → ℕ → ℕ → ReadSectionTable
 getRowOf s table count index =
+    -- 3.1: the file's length comes first
     inLimit Refused s
-    -- "96 sections pass, 97 is 3."
+    -- 1.2: a count above 96 is 3
     (must Refused (leb count sectionLimit) limit
-    -- an index at or past the count is 10
-    (must Refused (ltb index count) notFound (readOf s (table + 40 * index))))
+    -- 3.8: an index at or after the count is 10, before its row is read
+    (must Refused (ltb index count) notFound
+    -- 7.1: rows follow each other, 40 bytes each
+    (readOf s (table + 40 * index))))

@@ -1,7 +1,7 @@
 // The section table of an image: a row read from lent bytes, and the row at an index of a table.
 ghost use mathlib.Core.Path.{_≡_};
-ghost use mathlib.Core.Bool.{false};
 ghost use Rattle.pe_section.specs.Section.{nameBytesOf, readOf, getRowOf};
+use answer::Reason;
 use answer::Refusal;
 use cursor::Cursor;
 use cursor::NextU16;
@@ -14,7 +14,7 @@ pub const SIZE: usize = 40;
 // The most sections that a table may have.
 pub const LIMIT: usize = 96;
 
-const LAST: usize = 18446744073709551615;
+const LAST: usize = 0xFFFF_FFFF_FFFF_FFFF;
 
 pub struct SectionTable {
     // The eight bytes of the name as one number, the first the least significant: `name_bytes` hands them out.
@@ -65,26 +65,18 @@ pub fn get_row(file: &[u8], table: usize, count: usize, index: usize) -> ReadSec
     ensures { λ r. ⌜ r ≡ getRowOf (now (file .entry)) table count index ⌝ }
 {
     if answer::FILE_LIMIT < file.len() {
-        return ReadSectionTable::Refused(Refusal {
-            number: answer::LIMIT,
-        });
+        return ReadSectionTable::Refused(answer::refuse(Reason::Limit));
     }
     if LIMIT < count {
-        return ReadSectionTable::Refused(Refusal {
-            number: answer::LIMIT,
-        });
+        return ReadSectionTable::Refused(answer::refuse(Reason::Limit));
     }
     if count <= index {
-        return ReadSectionTable::Refused(Refusal {
-            number: answer::NOT_FOUND,
-        });
+        return ReadSectionTable::Refused(answer::refuse(Reason::NotFound));
     }
     let from = SIZE * index;
-    // A row past 64 bits is past the file.
+    // A row past 64 bits is in no file.
     if LAST - from < table {
-        return ReadSectionTable::Refused(Refusal {
-            number: answer::SHORT,
-        });
+        return ReadSectionTable::Refused(answer::beyond());
     }
     read(file, table + from)
 }

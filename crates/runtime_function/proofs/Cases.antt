@@ -2,7 +2,7 @@
 -- Assumes nothing.
 use mathlib.Core.Path.{_≡_, refl}
 use mathlib.Core.List.{[], _∷_}
-use Rattle.answer.specs.Answer.{refuseOf, short, cutOf}
+use Rattle.answer.specs.Answer.{refuseOf, short, cutOf, beyondOf}
 use Rattle.fields.specs.Number.{numberAt}
 use Rattle.layout.specs.Layout.{readBy, size}
 use Rattle.runtime_function.specs.RuntimeFunction.{runtimeFunction, readOf}
@@ -20,5 +20,5 @@ unfolding readOf readBy numberAt cutOf
 one-byte-missing = refl
 
 nothing-there : readOf [] 18446744073709551615 ≡ Refused (refuseOf short)
-unfolding readOf readBy numberAt cutOf
+unfolding readOf readBy numberAt cutOf beyondOf
 nothing-there = refl

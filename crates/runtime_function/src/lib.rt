@@ -1,9 +1,8 @@
 // A record of the function table (`RuntimeFunction`), read from lent bytes and written into them.
 ghost use mathlib.Core.Path.{_≡_};
-ghost use mathlib.Core.Bool.{false};
-ghost use Rattle.fields.specs.Field.{writeOf, stored};
-ghost use Rattle.layout.specs.Layout.{writeBy};
-ghost use Rattle.runtime_function.specs.RuntimeFunction.{runtimeFunction, numbersOf, readOf};
+ghost use Rattle.fields.specs.Field.{writeOf};
+ghost use Rattle.runtime_function.specs.RuntimeFunction.{readOf, writeOut};
+use answer::Reason;
 use answer::Refusal;
 use cursor::Cursor;
 use cursor::NextU32;
@@ -45,7 +44,7 @@ pub fn read(s: &[u8], at: usize) -> ReadRuntimeFunction
 }
 
 pub fn write(out: &mut [u8], at: usize, e: RuntimeFunction) -> WriteBytes
-    ensures { λ r. ⌜ (r ≡ writeOf 12 (now (out .entry)) at) × (now (out .exit) ≡ stored (now (out .entry)) at (writeBy false runtimeFunction (numbersOf e))) ⌝ }
+    ensures { λ r. ⌜ (r ≡ writeOf 12 (now (out .entry)) at) × (now (out .exit) ≡ writeOut (now (out .entry)) at e) ⌝ }
 {
     if fields::fits(out.len(), at, SIZE) {
         // There is room for the record, so none of these is refused.
@@ -54,7 +53,5 @@ pub fn write(out: &mut [u8], at: usize, e: RuntimeFunction) -> WriteBytes
         fields::write_u32(out, at + 8, e.unwind, false);
         return WriteBytes::Done;
     }
-    WriteBytes::Refused(Refusal {
-        number: answer::ROOM,
-    })
+    WriteBytes::Refused(answer::refuse(Reason::Room))
 }

@@ -5,16 +5,17 @@ use mathlib.Core.List.{List, [], _∷_, _++_}
 use mathlib.Core.Bool.{false}
 use Prim.Native.Nat.{ℕ}
 use lib.ListN.{take}
-use Rattle.answer.specs.Answer.{refuseOf, short, order, notFound, cutOf}
+use Rattle.answer.specs.Answer.{refuseOf, short, order, notFound, cutOf, beyondOf}
 use Rattle.answer.specs.Test.{must}
 use Rattle.fields.specs.Number.{numberAt, bytesOf}
 use Rattle.layout.specs.Layout.{readBy, numbersAt, writeBy}
 use Rattle.runtime_function.specs.RuntimeFunction.{runtimeFunction, readOf}
-use Rattle.runtime_table.specs.Table.{tableOf, x64, getEntryOf, liesOf, each, ordered}
-use Rattle.runtime_table.specs.Check.{checking}
-use Rattle.runtime_lookup.specs.Halving.{ended, searchFrom, among, halving}
+use Rattle.runtime_table.specs.Table.{tableOf, getEntryOf, liesOf, each, ordered}
+use Rattle.runtime_table.specs.Check.{checkOf}
+use Rattle.exception_data.specs.declared.ExceptionData.{ExceptionData}
+use Rattle.exception_data.specs.declared.RecordForm.the-variants.{X64}
+use Rattle.runtime_lookup.specs.Halving.{Holds, ended, searchFrom, among, halving}
 use Rattle.runtime_lookup.specs.Lookup.{soughtAt, findFunctionOf, checkAndFindOf}
-use Rattle.runtime_lookup.specs.declared.SearchEnd.the-variants.{Holds}
 use Rattle.runtime_lookup.specs.declared.CheckAndFind.{CheckAndFind}
 use Rattle.runtime_lookup.specs.declared.CheckAndFind.the-variants.{Value, Refused}
 
@@ -26,20 +27,24 @@ bytes begin end = writeBy false runtimeFunction (begin ∷ end ∷ 4096 ∷ [])
 abbrev answer : ℕ → ℕ → ℕ → CheckAndFind
 answer begin end index = Value (record { function = record { begin = begin; end = end; unwind = 4096 }; index = index })
 
+-- a table, as opening answers it
+abbrev opened : ℕ → ℕ → ExceptionData
+opened table count = record { form = X64; table = table; count = count; sections = record { table = 0; count = 0; alignment = 0 } }
+
 -- one record, and its own begin, the address before it, its last and its end
-one-begin : findFunctionOf (bytes 16 32) 0 1 16 ≡ answer 16 32 0
+one-begin : findFunctionOf (bytes 16 32) (opened 0 1) 16 ≡ answer 16 32 0
 unfolding findFunctionOf must soughtAt halving among searchFrom tableOf numbersAt getEntryOf readOf readBy numberAt writeBy bytesOf
 one-begin = refl
 
-one-before : findFunctionOf (bytes 16 32) 0 1 15 ≡ Refused (refuseOf notFound)
+one-before : findFunctionOf (bytes 16 32) (opened 0 1) 15 ≡ Refused (refuseOf notFound)
 unfolding findFunctionOf must soughtAt halving among searchFrom tableOf numbersAt getEntryOf readOf readBy numberAt writeBy bytesOf
 one-before = refl
 
-one-last : findFunctionOf (bytes 16 32) 0 1 31 ≡ answer 16 32 0
+one-last : findFunctionOf (bytes 16 32) (opened 0 1) 31 ≡ answer 16 32 0
 unfolding findFunctionOf must soughtAt halving among searchFrom tableOf numbersAt getEntryOf readOf readBy numberAt writeBy bytesOf
 one-last = refl
 
-one-end : findFunctionOf (bytes 16 32) 0 1 32 ≡ Refused (refuseOf notFound)
+one-end : findFunctionOf (bytes 16 32) (opened 0 1) 32 ≡ Refused (refuseOf notFound)
 unfolding findFunctionOf must soughtAt halving among searchFrom tableOf numbersAt getEntryOf readOf readBy numberAt writeBy bytesOf
 one-end = refl
 
@@ -47,52 +52,54 @@ one-end = refl
 abbrev unordered : List ℕ
 unordered = bytes 14 128 ++ bytes 108 149 ++ bytes 123 166
 
-first-looked-at : findFunctionOf unordered 0 3 132 ≡ answer 108 149 1
+first-looked-at : findFunctionOf unordered (opened 0 3) 132 ≡ answer 108 149 1
 unfolding findFunctionOf must soughtAt halving among searchFrom tableOf numbersAt getEntryOf readOf readBy numberAt writeBy bytesOf
 first-looked-at = refl
 
 -- the door that checks the table refuses it
-unordered-checked : checkAndFindOf unordered 0 3 132 ≡ Refused (refuseOf order)
-unfolding checkAndFindOf checking liesOf ordered each findFunctionOf must soughtAt halving among searchFrom tableOf numbersAt getEntryOf readOf readBy numberAt writeBy bytesOf
+unordered-checked : checkAndFindOf unordered (opened 0 3) 132 ≡ Refused (refuseOf order)
+unfolding checkAndFindOf checkOf liesOf ordered each findFunctionOf must soughtAt halving among searchFrom tableOf numbersAt getEntryOf
+    readOf readBy numberAt writeBy bytesOf
 unordered-checked = refl
 
 -- of two records the second is looked at first, and the first after it
 abbrev two : List ℕ
 two = bytes 16 32 ++ bytes 48 64
 
-two-looked-at : halving (tableOf x64 two 0) 16 2 ≡ ended (Holds 0) 2
+two-looked-at : halving (tableOf two 0) 16 2 ≡ ended (Holds 0) 2
 unfolding halving among searchFrom tableOf numbersAt numberAt writeBy bytesOf
 two-looked-at = refl
 
-between : checkAndFindOf two 0 2 40 ≡ Refused (refuseOf notFound)
-unfolding checkAndFindOf checking liesOf ordered each findFunctionOf must soughtAt halving among searchFrom tableOf numbersAt getEntryOf readOf readBy numberAt writeBy bytesOf
+between : checkAndFindOf two (opened 0 2) 40 ≡ Refused (refuseOf notFound)
+unfolding checkAndFindOf checkOf liesOf ordered each findFunctionOf must soughtAt halving among searchFrom tableOf numbersAt getEntryOf
+    readOf readBy numberAt writeBy bytesOf
 between = refl
 
 -- a table cut short answers where the records that are looked at are there, ..
-cut-behind : findFunctionOf (take 35 (bytes 16 32 ++ bytes 48 64 ++ bytes 80 96)) 0 3 16 ≡ answer 16 32 0
+cut-after : findFunctionOf (take 35 (bytes 16 32 ++ bytes 48 64 ++ bytes 80 96)) (opened 0 3) 16 ≡ answer 16 32 0
 unfolding findFunctionOf must soughtAt halving among searchFrom tableOf numbersAt getEntryOf readOf readBy numberAt writeBy bytesOf
-cut-behind = refl
+cut-after = refl
 
 -- .. and is 1 where one of them is not whole, though its begin and end are there
-cut-at : findFunctionOf (take 35 (bytes 16 32 ++ bytes 48 64 ++ bytes 80 96)) 0 3 80 ≡ Refused (refuseOf short)
+cut-at : findFunctionOf (take 35 (bytes 16 32 ++ bytes 48 64 ++ bytes 80 96)) (opened 0 3) 80 ≡ Refused (refuseOf short)
 unfolding findFunctionOf must soughtAt halving among searchFrom tableOf numbersAt getEntryOf readOf readBy numberAt writeBy bytesOf cutOf
 cut-at = refl
 
 -- the door that checks the table needs all of it
-cut-checked : checkAndFindOf (take 35 (bytes 16 32 ++ bytes 48 64 ++ bytes 80 96)) 0 3 16 ≡ Refused (refuseOf short)
-unfolding checkAndFindOf checking liesOf must writeBy bytesOf cutOf
+cut-checked : checkAndFindOf (take 35 (bytes 16 32 ++ bytes 48 64 ++ bytes 80 96)) (opened 0 3) 16 ≡ Refused (refuseOf short)
+unfolding checkAndFindOf checkOf liesOf must writeBy bytesOf cutOf
 cut-checked = refl
 
 -- no records, wherever the table is said to be, in both doors
-no-records : findFunctionOf [] 18446744073709551615 0 0 ≡ Refused (refuseOf notFound)
+no-records : findFunctionOf [] (opened 18446744073709551615 0) 0 ≡ Refused (refuseOf notFound)
 unfolding findFunctionOf must halving among searchFrom
 no-records = refl
 
-no-records-checked : checkAndFindOf [] 18446744073709551615 0 0 ≡ Refused (refuseOf notFound)
-unfolding checkAndFindOf checking liesOf ordered each findFunctionOf must halving among searchFrom
+no-records-checked : checkAndFindOf [] (opened 18446744073709551615 0) 0 ≡ Refused (refuseOf notFound)
+unfolding checkAndFindOf checkOf liesOf ordered each findFunctionOf must halving among searchFrom
 no-records-checked = refl
 
--- the record that is looked at first stands past 64 bits
-past-64-bits : findFunctionOf [] 18446744073709551615 3 4294967295 ≡ Refused (refuseOf short)
-unfolding findFunctionOf must soughtAt halving among searchFrom tableOf getEntryOf readOf readBy cutOf
+-- the record that is looked at first is past 64 bits
+past-64-bits : findFunctionOf [] (opened 18446744073709551615 3) 4294967295 ≡ Refused (refuseOf short)
+unfolding findFunctionOf must soughtAt halving among searchFrom tableOf getEntryOf readOf readBy cutOf beyondOf
 past-64-bits = refl

@@ -9,15 +9,12 @@ use Rattle.fields.proofs.Laws.{le-or-lt}
 use Rattle.runtime_table.specs.Table.{Table}
 use Rattle.runtime_table.proofs.Laws.{InOrder, never-both}
 use Rattle.runtime_table.proofs.Theorems.{ends-before}
-use Rattle.runtime_lookup.specs.Halving.{middle, searchFrom, among, halving}
-use Rattle.runtime_lookup.specs.declared.SearchEnd.{SearchEnd}
-use Rattle.runtime_lookup.specs.declared.SearchEnd.the-variants.{Holds, Gone, Nothing}
-use Rattle.runtime_lookup.specs.declared.Search.{Search}
-use Rattle.runtime_lookup.proofs.Turns.{walk-holds, walk-before, walk-after, Turn, At-gone, At-holds, At-before, At-after, turn-at}
-use Rattle.runtime_lookup.proofs.Ends.{Holder, holds-told, gone-told}
+use Rattle.runtime_lookup.specs.Halving.{Ending, Holds, Gone, Nothing, Halved, middle, searchFrom, among, halving}
+use Rattle.runtime_lookup.proofs.Turns.{from-holds, from-before, from-after, Turn, At-gone, At-holds, At-before, At-after, turn-at}
+use Rattle.runtime_lookup.proofs.Ends.{Held, holds-told, gone-told}
 
-abbrev end : Search → SearchEnd
-end h = h .outcome
+abbrev end : Halved → Ending
+end h = h .ending
 
 -- every record is there, and they are in order
 pub record Sorted (t : Table) (count : ℕ) : Type 0 where
@@ -25,18 +22,18 @@ pub record Sorted (t : Table) (count : ℕ) : Type 0 where
   pub order : InOrder t count
 
 module _ (t : Table) (a count : ℕ) (o : Sorted t count) where
-  clash : (p q : ℕ) → Holder t a 0 count p → Holder t a 0 count q → p < q → ⊥
+  clash : (p q : ℕ) → Held t a 0 count p → Held t a 0 count q → p < q → ⊥
   clash p q x y l = omega (arith, ends-before t count (o .order) p q l (y .below), x .unended, y .begun)
 
   -- one record at most holds an address
-  pub only : (i j : ℕ) → Holder t a 0 count i → Holder t a 0 count j → i ≡ j
+  pub only : (i j : ℕ) → Held t a 0 count i → Held t a 0 count j → i ≡ j
   only i j x y =
       ⊎-elim
       (λ h. ⊎-elim (λ k. omega arith) (λ k. absurd (clash i j x y k)) (le-or-lt j i))
       (λ h. absurd (clash j i y x h))
       (le-or-lt i j)
 
-  -- a record that holds the address stands before one that begins past it
+  -- a record that holds the address is before one that begins past it
   left-of : (i m : ℕ) → i < count → m < count → t .begin i ≤ a → a < t .begin m → i < m
   left-of i m h k p q =
       ⊎-elim
@@ -49,7 +46,7 @@ module _ (t : Table) (a count : ℕ) (o : Sorted t count) where
       (λ l. l)
       (le-or-lt m i)
 
-  -- and behind one that ends at or before it
+  -- and after one that ends at or before it
   right-of : (i m : ℕ) → m < count → a < t .end i → t .end m ≤ a → m < i
   right-of i m k p q =
       ⊎-elim
@@ -62,7 +59,8 @@ module _ (t : Table) (a count : ℕ) (o : Sorted t count) where
       (λ l. l)
       (le-or-lt i m)
 
-  complete : (turns low high i : ℕ) → high ≤ low + turns → high ≤ count → Holder t a low high i → searchFrom t a turns low high .outcome ≡ Holds i
+  complete : (turns low high i : ℕ) → high ≤ low + turns → high ≤ count → Held t a low high i
+      → searchFrom t a turns low high .ending ≡ Holds i
   complete zero low high i f c h = absurd (omega (arith, h .from, h .below))
   complete (suc turns) low high i f c h =
       by
@@ -71,10 +69,13 @@ module _ (t : Table) (a count : ℕ) (o : Sorted t count) where
       (complete turns low (middle low high) i (omega (arith, h .from, h .below)) (omega (arith, h .from, h .below)))
       (complete turns (suc (middle low high)) high i (omega (arith, h .from, h .below)) c)
     where
-      by : low < high → Turn t a (middle low high) → (Holder t a low (middle low high) i → searchFrom t a turns low (middle low high) .outcome ≡ Holds i) → (Holder t a (suc (middle low high)) high i → searchFrom t a turns (suc (middle low high)) high .outcome ≡ Holds i) → searchFrom t a (suc turns) low high .outcome ≡ Holds i
+      by : low < high → Turn t a (middle low high)
+          → (Held t a low (middle low high) i → searchFrom t a turns low (middle low high) .ending ≡ Holds i)
+          → (Held t a (suc (middle low high)) high i → searchFrom t a turns (suc (middle low high)) high .ending ≡ Holds i)
+          → searchFrom t a (suc turns) low high .ending ≡ Holds i
       by l (At-gone g) x y = absurd (never-both (sym (o .whole (middle low high) (omega arith)) ∙ g))
       by l (At-holds g p q) x y =
-          ap end (walk-holds t a turns low high l g p q)
+          ap end (from-holds t a turns low high l g p q)
           ∙ ap
           Holds
           (only
@@ -83,7 +84,7 @@ module _ (t : Table) (a count : ℕ) (o : Sorted t count) where
           (record { from = omega arith; below = omega arith; there = g; begun = p; unended = q })
           (record { from = omega arith; below = omega (arith, h .below); there = h .there; begun = h .begun; unended = h .unended }))
       by l (At-before g p) x y =
-          ap end (walk-before t a turns low high l g p)
+          ap end (from-before t a turns low high l g p)
           ∙ x (record {
             from = h .from;
             below = left-of i (middle low high) (omega (arith, h .below)) (omega arith) (h .begun) p;
@@ -92,7 +93,7 @@ module _ (t : Table) (a count : ℕ) (o : Sorted t count) where
             unended = h .unended;
           })
       by l (At-after g p q) x y =
-          ap end (walk-after t a turns low high l g p q)
+          ap end (from-after t a turns low high l g p q)
           ∙ y (record {
             from = right-of i (middle low high) (omega arith) (h .unended) q;
             below = h .below;
@@ -102,15 +103,15 @@ module _ (t : Table) (a count : ℕ) (o : Sorted t count) where
           })
 
   -- the record that holds the address is found
-  pub holder-found : (i : ℕ) → Holder t a 0 count i → halving t a count .outcome ≡ Holds i
+  pub holder-found : (i : ℕ) → Held t a 0 count i → halving t a count .ending ≡ Holds i
   unfolding halving among
   holder-found i h = complete (count - 0) 0 count i (omega arith) (omega arith) h
 
   -- where none does, nothing is found
-  pub none-found : ((i : ℕ) → Holder t a 0 count i → ⊥) → halving t a count .outcome ≡ Nothing
-  none-found n = by (halving t a count .outcome) refl
+  pub none-found : ((i : ℕ) → Held t a 0 count i → ⊥) → halving t a count .ending ≡ Nothing
+  none-found n = by (halving t a count .ending) refl
     where
-      by : (r : SearchEnd) → halving t a count .outcome ≡ r → r ≡ Nothing
+      by : (r : Ending) → halving t a count .ending ≡ r → r ≡ Nothing
       by (Holds i) e = absurd (n i (holds-told t a count i e))
       by (Gone i) e = let m = gone-told t a count i e in absurd (never-both (sym (o .whole i (m .below)) ∙ m .gone))
       by Nothing e = refl

@@ -2,118 +2,172 @@
 -- Assumes nothing.
 use mathlib.Core.Path.{_≡_, refl, sym, ap, _∙_}
 use mathlib.Core.List.{List}
-use mathlib.Core.Bool.{true, false}
+use mathlib.Core.Bool.{true}
 use Prim.Native.Nat.{ℕ, suc, _≤_, _<_}
 use native.Mathlib.Omega.{arith}
 use lib.ListN.{length}
+use lib.Dec.{leb, ltb}
 use borrow.Author.Tests.{le-leb}
-use Rattle.answer.specs.Answer.{refuseOf, notFound}
-use Rattle.answer.specs.Test.{fileLimit}
+use Rattle.answer.specs.Answer.{refuseOf, notFound, values}
+use Rattle.answer.specs.Test.{pick, fileLimit}
 use Rattle.answer.proofs.Unique.{same}
 use Rattle.runtime_function.specs.declared.RuntimeFunction.{RuntimeFunction}
 use Rattle.runtime_function.specs.declared.ReadRuntimeFunction.the-variants as found
-use Rattle.runtime_table.specs.Table.{Form, Table, placeOf, tableOf, runtimeAt, x64, getEntryOf}
+use Rattle.runtime_table.specs.Table.{Table, placeOf, tableOf, runtimeAt, getEntryOf}
 use Rattle.runtime_table.specs.Check.{checkOf}
 use Rattle.runtime_table.specs.declared.CheckTable.the-variants as checked
-use Rattle.runtime_table.proofs.Laws.{entry-whole, seen-there, seen-begin, seen-end, lies-there, checked-on}
+use Rattle.runtime_table.proofs.Laws.{entry-whole, seen-there, seen-begin, seen-end, lies-there, never-both}
 use Rattle.runtime_table.proofs.Theorems.{Accepted, check-told}
-use Rattle.runtime_lookup.specs.Halving.{middle, ended, plus, among, halving}
+use Rattle.exception_data.specs.Exception.{openOf}
+use Rattle.exception_data.specs.declared.ExceptionData.{ExceptionData}
+use Rattle.exception_data.specs.declared.OpenExceptionData.the-variants as opening
+use Rattle.exception_data.proofs.Theorems.{opened-checked}
+use Rattle.runtime_lookup.specs.Halving.{Ending, Holds, Gone, Nothing, Halved, holds, middle, ended, plus, among, halving}
 use Rattle.runtime_lookup.specs.Lookup.{findFunctionOf, checkAndFindOf, readLimit, uncounted, CountedReads}
-use Rattle.runtime_lookup.specs.declared.SearchEnd.the-variants.{Holds, Gone, Nothing}
-use Rattle.runtime_lookup.specs.declared.Search.{Search}
+use Rattle.runtime_lookup.specs.Answers.{answerFindFunction, countFindFunction, answerCheckAndFind, countCheckAndFind}
 use Rattle.runtime_lookup.specs.declared.Holder.{Holder}
 use Rattle.runtime_lookup.specs.declared.CheckAndFind.{CheckAndFind}
 use Rattle.runtime_lookup.specs.declared.CheckAndFind.the-variants.{Value, Refused}
 use Rattle.runtime_lookup.specs.declared.FindFunction.{FindFunction}
+use Rattle.runtime_lookup.specs.declared.FindFunction.the-variants as located
 use Rattle.runtime_lookup.proofs.Turns as turns
 use Rattle.runtime_lookup.proofs.Bound as bound
-use Rattle.runtime_lookup.proofs.Ends.{Holder as Holding, gone-told}
+use Rattle.runtime_lookup.proofs.Ends.{Held, holds-told, gone-told}
 use Rattle.runtime_lookup.proofs.Order as sorted
 use Rattle.runtime_lookup.proofs.Order.{Sorted}
-use Rattle.runtime_lookup.proofs.Laws.{Finds, lookup-ended, lookup-told, sought-of, sought-whole}
+use Rattle.runtime_lookup.proofs.Laws.{lookup-ended, lookup-told, sought-of, sought-whole, checked-on}
 
--- "among records low up to but not including high, look at the one at (low + high) / 2 rounded down": the search, with no bound on its turns.
-module _ (t : Table) (a low high : ℕ) where
-  -- "none left is 10"
-  pub search-empty : high ≤ low → among t a low high ≡ ended Nothing 0
-  search-empty h = sym (turns.among-empty t a low high h)
+-- 9.3 to 9.7: the search among the records from `low` up to but not including `high`, with no bound on its turns.
+pub search-is : (t : Table) (a low high : ℕ)
+    → among t a low high
+    ≡ pick (leb high low)
+    (ended Nothing 0)
+    (pick (t .there (middle low high))
+    (pick (holds t a (middle low high))
+    (ended (Holds (middle low high)) 1)
+    (plus 1
+    (pick (ltb a (t .begin (middle low high)))
+    (among t a low (middle low high))
+    (among t a (suc (middle low high)) high))))
+    (ended (Gone (middle low high)) 0))
+search-is = turns.among-is
 
-  module _ (l : low < high) where
-    pub search-gone : t .there (middle low high) ≡ false → among t a low high ≡ ended (Gone (middle low high)) 0
-    search-gone h = sym (turns.among-gone t a low high (middle low high) refl l h)
-
-    module _ (h : t .there (middle low high) ≡ true) where
-      -- ".. the search goes on before it (address < begin) .."
-      pub search-before : a < t .begin (middle low high) → among t a low high ≡ plus 1 (among t a low (middle low high))
-      search-before p = sym (turns.among-before t a low high (middle low high) refl l h p)
-
-      module _ (p : t .begin (middle low high) ≤ a) where
-        -- "it holds the address"
-        pub search-holds : a < t .end (middle low high) → among t a low high ≡ ended (Holds (middle low high)) 1
-        search-holds q = sym (turns.among-holds t a low high (middle low high) refl l h p q)
-
-        -- ".. or else after it"
-        pub search-after : t .end (middle low high) ≤ a → among t a low high ≡ plus 1 (among t a (suc (middle low high)) high)
-        search-after q = sym (turns.among-after t a low high (middle low high) refl l h p q)
-
--- "A lookup reads at most 26 records": on all bytes, with all numbers, however the search ends; in any form of 8 bytes a record or more.
-pub reads-26 : (form : Form) (s : List ℕ) (table count a : ℕ) → 8 ≤ form .stride → length s ≤ fileLimit → halving (tableOf form s table) a count .reads ≤ readLimit
+-- 1.6: on all bytes and numbers, and however the search ends, at most 26 records are read.
+pub reads-26 : (s : List ℕ) (table count a : ℕ) → length s ≤ fileLimit → halving (tableOf s table) a count .reads ≤ readLimit
 reads-26 = bound.reads-26
 
 -- Where every record is there, none is missed: 1 is answered only for a record that is looked at and is not there.
-pub never-gone : (t : Table) (a count i : ℕ) → ((j : ℕ) → j < count → t .there j ≡ true) → halving t a count .outcome ≡ Gone i → ⊥
-never-gone t a count i w e =
-    let m = gone-told t a count i e in
-    let z : true ≡ false = sym (w i (m .below)) ∙ m .gone in
-    let o : _≡_ {A = ℕ} 0 1 = cc in
-    omega arith
+pub never-gone : (t : Table) (a count i : ℕ) → ((j : ℕ) → j < count → t .there j ≡ true) → halving t a count .ending ≡ Gone i → ⊥
+never-gone t a count i w e = let m = gone-told t a count i e in never-both (sym (w i (m .below)) ∙ m .gone)
+
+-- the record at an index of an opened table
+abbrev pub recordAt : List ℕ → ExceptionData → ℕ → RuntimeFunction
+recordAt s opened i = runtimeAt s (placeOf (opened .table) i)
+
+-- 9.1: it is one of the table's, and holds the address
+pub record Holding (s : List ℕ) (opened : ExceptionData) (a i : ℕ) : Type 0 where
+  pub below : i < opened .count
+  pub begun : recordAt s opened i .begin ≤ a
+  pub unended : a < recordAt s opened i .end
+
+-- 9.2: what a lookup is to answer: the one record that holds the address, or 10 where none does
+pub data Exact (s : List ℕ) (opened : ExceptionData) (a : ℕ) (r : CheckAndFind) : Type 0 where
+  finds : (i : ℕ) → Holding s opened a i → ((j : ℕ) → Holding s opened a j → j ≡ i)
+      → r ≡ Value (record { function = recordAt s opened i; index = i }) → Exact s opened a r
+  none : ((i : ℕ) → Holding s opened a i → ⊥) → r ≡ Refused (refuseOf notFound) → Exact s opened a r
 
 -- A table that the check accepts.
-module _ (s : List ℕ) (table count a : ℕ) (c : checked.Ordered ≡ checkOf s table count) where
-  accepted : Accepted s table count
-  accepted = check-told s table count c
+module _ (s : List ℕ) (opened : ExceptionData) (a : ℕ) (c : checked.Ordered ≡ checkOf s (opened .table) (opened .count)) where
+  accepted : Accepted s (opened .table) (opened .count)
+  accepted = check-told s (opened .table) (opened .count) c
 
-  is-sorted : Sorted (tableOf x64 s table) count
+  is-sorted : Sorted (tableOf s (opened .table)) (opened .count)
   unfolding tableOf
-  is-sorted = record { whole = λ i l. le-leb _ _ (lies-there s table i count l (accepted .lies)); order = accepted .order }
+  is-sorted =
+      record { whole = λ i l. le-leb _ _ (lies-there s (opened .table) i (opened .count) l (accepted .lies)); order = accepted .order }
 
-  -- "A lookup accepts exactly when some record has begin ≤ address < end": it finds a record that holds the address, ..
-  pub found-if-held : (i : ℕ) → Holding (tableOf x64 s table) a 0 count i → Value (record { function = runtimeAt s (placeOf x64 table i); index = i }) ≡ findFunctionOf s table count a
+  held : (i : ℕ) → Holding s opened a i → Held (tableOf s (opened .table)) a 0 (opened .count) i
+  unfolding tableOf
+  held i h =
+      record { from = omega arith; below = h .below; there = is-sorted .whole i (h .below); begun = h .begun; unended = h .unended }
+
+  holding : (i : ℕ) → Held (tableOf s (opened .table)) a 0 (opened .count) i → Holding s opened a i
+  unfolding tableOf
+  holding i h = record { below = h .below; begun = h .begun; unended = h .unended }
+
+  -- At most one record holds the address.
+  pub one-holds : (i j : ℕ) → Holding s opened a i → Holding s opened a j → i ≡ j
+  one-holds i j x y = sorted.only _ a (opened .count) is-sorted i j (held i x) (held j y)
+
+  -- A record that holds the address is found.
+  pub found-if-held : (i : ℕ) → Holding s opened a i
+      → Value (record { function = recordAt s opened i; index = i }) ≡ findFunctionOf s opened a
   found-if-held i h =
-      sought-of s table i (lies-there s table i count (h .below) (accepted .lies))
-      ∙ lookup-ended s table count a (accepted .short) (sorted.holder-found (tableOf x64 s table) a count is-sorted i h)
+      lookup-ended s opened a (accepted .short) (sorted.holder-found _ a (opened .count) is-sorted i (held i h))
+      (sought-of s (opened .table) i (lies-there s (opened .table) i (opened .count) (h .below) (accepted .lies)))
 
-  -- .. what it finds holds the address, ..
-  pub held-if-found : (h : Holder) → Value h ≡ findFunctionOf s table count a → Finds s table count a h
-  held-if-found h e = lookup-told s table count a e
+  -- What is found holds the address.
+  pub held-if-found : (h : Holder) → Value h ≡ findFunctionOf s opened a
+      → Holding s opened a (h .index) × (h .function ≡ recordAt s opened (h .index))
+  held-if-found h e = let w = lookup-told s opened a e in (holding (h .index) (w .held), w .value)
 
-  -- .. that record is the only one, ..
-  pub one-holds : (i j : ℕ) → Holding (tableOf x64 s table) a 0 count i → Holding (tableOf x64 s table) a 0 count j → i ≡ j
-  one-holds = sorted.only (tableOf x64 s table) a count is-sorted
+  -- Where no record holds the address, the answer is 10.
+  pub not-found-if-none : ((i : ℕ) → Holding s opened a i → ⊥) → Refused (refuseOf notFound) ≡ findFunctionOf s opened a
+  not-found-if-none n =
+      lookup-ended s opened a (accepted .short) (sorted.none-found _ a (opened .count) is-sorted (λ i h. n i (holding i h))) refl
 
-  -- .. "otherwise 10".
-  pub not-found-if-none : ((i : ℕ) → Holding (tableOf x64 s table) a 0 count i → ⊥) → Refused (refuseOf notFound) ≡ findFunctionOf s table count a
-  not-found-if-none n = lookup-ended s table count a (accepted .short) (sorted.none-found (tableOf x64 s table) a count is-sorted n)
+  exact-by : (o : Ending) → halving (tableOf s (opened .table)) a (opened .count) .ending ≡ o → Exact s opened a (findFunctionOf s opened a)
+  exact-by (Holds i) e =
+      let h = holding i (holds-told _ a (opened .count) i e) in
+      finds i h (λ j k. one-holds j i k h) (sym (found-if-held i h))
+  exact-by (Gone i) e = absurd (never-gone _ a (opened .count) i (is-sorted .whole) e)
+  exact-by Nothing e =
+      none (λ i h. differ (sym (sorted.holder-found _ a (opened .count) is-sorted i (held i h)) ∙ e))
+      (sym (lookup-ended s opened a (accepted .short) e refl))
+    where
+      differ : {i : ℕ} → Holds i ≡ Nothing → ⊥
+      differ e = let z : _≡_ {A = ℕ} 0 1 = cc in omega arith
+
+  -- All of this at once.
+  pub checked-exact : Exact s opened a (findFunctionOf s opened a)
+  checked-exact = exact-by _ refl
 
   -- The door that checks the table answers the same.
-  pub checked-as-looked-up : findFunctionOf s table count a ≡ checkAndFindOf s table count a
-  unfolding checkAndFindOf
-  checked-as-looked-up = checked-on Refused s table count (findFunctionOf s table count a) c refl refl
+  pub checked-as-looked-up : findFunctionOf s opened a ≡ checkAndFindOf s opened a
+  checked-as-looked-up = checked-on s opened a c refl refl
 
--- A table of one record finds its own begin.
-pub own-begin : (s : List ℕ) (table : ℕ) (e : RuntimeFunction) → length s ≤ fileLimit → found.Value e ≡ getEntryOf s table 0 → e .begin < e .end → Value (record { function = e; index = 0 }) ≡ findFunctionOf s table 1 (e .begin)
+-- 9.2: In a table that opening answered, a lookup finds exactly when a record holds the address, and it is the one that holds it.
+pub opened-exact : (s : List ℕ) (opened : ExceptionData) (a : ℕ) → opening.Value opened ≡ openOf s
+    → Exact s opened a (findFunctionOf s opened a)
+opened-exact s opened a o = checked-exact s opened a (opened-checked s opened o)
+
+-- A table of one record, opened or not, finds its own begin.
+pub own-begin : (s : List ℕ) (opened : ExceptionData) (e : RuntimeFunction) → length s ≤ fileLimit → opened .count ≡ 1
+    → found.Value e ≡ getEntryOf s (opened .table) 0 → e .begin < e .end
+    → Value (record { function = e; index = 0 }) ≡ findFunctionOf s opened (e .begin)
 unfolding halving
-own-begin s table e l f p =
-    let w = entry-whole s table 0 refl (sym f) in
-    let h = search-holds (tableOf x64 s table) (e .begin) 0 1 (omega arith) (seen-there s table 0 w) (omega (arith, seen-begin s table 0 w)) (omega (arith, seen-end s table 0 w)) in
-    sought-whole s table 0 refl (sym f) ∙ lookup-ended s table 1 (e .begin) l (halving-one h)
-  where
-    halving-one : among (tableOf x64 s table) (e .begin) 0 1 ≡ ended (Holds 0) 1 → halving (tableOf x64 s table) (e .begin) 1 .outcome ≡ Holds 0
-    halving-one h = ap (λ (x : Search). x .outcome) h
+own-begin s opened e l one f p =
+    let w = entry-whole s (opened .table) 0 refl (sym f) in
+    let h = turns.among-holds (tableOf s (opened .table)) (e .begin) 0 1 0 refl (omega arith) (seen-there s (opened .table) 0 w)
+    (omega (arith, seen-begin s (opened .table) 0 w)) (omega (arith, seen-end s (opened .table) 0 w)) in
+    lookup-ended s opened (e .begin) l {o = Holds 0} (rw one (ap (λ (x : Halved). x .ending) (sym h)))
+    (sought-whole s (opened .table) 0 refl (sym f))
 
--- Two answers that meet the promise of `find` are equal but for the number of records read, which is 1 to 26 where a record is found.
-pub find-function-unique : (s : List ℕ) (table count a : ℕ) (r q : FindFunction) → (uncounted r ≡ findFunctionOf s table count a) × CountedReads r → (uncounted q ≡ findFunctionOf s table count a) × CountedReads q → uncounted r ≡ uncounted q
-find-function-unique s table count a r q e f = same (e .0) (f .0)
+-- Two answers that meet the promise of `find_function` are equal but for the number of records read, which is 1 to 26 where it finds.
+pub find-function-unique : (s : List ℕ) (opened : ExceptionData) (a : ℕ) (r q : FindFunction)
+    → (uncounted r ≡ findFunctionOf s opened a) × CountedReads r → (uncounted q ≡ findFunctionOf s opened a) × CountedReads q
+    → uncounted r ≡ uncounted q
+find-function-unique s opened a r q e f = same (e .0) (f .0)
 
-pub check-and-find-unique : (s : List ℕ) (table count a : ℕ) {r q : CheckAndFind} → r ≡ checkAndFindOf s table count a → q ≡ checkAndFindOf s table count a → r ≡ q
-check-and-find-unique s table count a = same
+pub check-and-find-unique : (s : List ℕ) (opened : ExceptionData) (a : ℕ) {r q : CheckAndFind} → r ≡ checkAndFindOf s opened a
+    → q ≡ checkAndFindOf s opened a → r ≡ q
+check-and-find-unique s opened a = same
+
+-- Each answer has as many numbers as it says, zeros where it is refused.
+pub find-function-count : (r : FindFunction) → length (values countFindFunction (answerFindFunction r)) ≡ countFindFunction
+find-function-count (located.Value h n) = refl
+find-function-count (located.Refused k) = refl
+
+pub check-and-find-count : (r : CheckAndFind) → length (values countCheckAndFind (answerCheckAndFind r)) ≡ countCheckAndFind
+check-and-find-count (Value h) = refl
+check-and-find-count (Refused k) = refl

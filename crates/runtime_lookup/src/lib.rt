@@ -5,10 +5,13 @@ ghost use Prim.Native.Nat.{_+_, _*_, _≤_};
 ghost use lib.ListN.{length};
 ghost use Rattle.answer.specs.Test.{fileLimit};
 ghost use Rattle.fields.specs.Number.{numberAt};
-ghost use Rattle.runtime_table.specs.Table.{tableOf, x64, liesOf};
+ghost use Rattle.runtime_table.specs.Table.{tableOf, liesOf};
 ghost use Rattle.runtime_lookup.specs.Halving.{halving};
-ghost use Rattle.runtime_lookup.specs.Lookup.{soughtAt, findFunctionOf, checkAndFindOf, uncounted, CountedReads, Searches};
+ghost use Rattle.runtime_lookup.specs.Lookup.{soughtAt, findFunctionOf, checkAndFindOf, uncounted, CountedReads};
+ghost use Rattle.runtime_lookup.specs.Code.{searchOf, Searches};
+use answer::Reason;
 use answer::Refusal;
+use exception_data::ExceptionData;
 use runtime_function::ReadRuntimeFunction;
 use runtime_function::RuntimeFunction;
 use runtime_table::CheckTable;
@@ -32,53 +35,43 @@ pub enum FindFunction {
 
 // How a search ends.
 enum SearchEnd {
-    // The record at this index holds the address.
-    Holds(usize),
-    // The record at this index is looked at and is not wholly in the file.
-    Gone(usize),
-    // No record is left.
+    // At the record of this index, which holds the address or is not wholly in the file.
+    Stopped(usize),
+    // With no record left.
     Nothing,
 }
 
 // A search: how it ended, and how many records it read.
 struct Search {
-    outcome: SearchEnd,
+    end: SearchEnd,
     reads: u8,
 }
 
-// The record that halving finds in the table of `count` records at `table`.
-pub fn find_function(file: &[u8], table: usize, count: usize, address: u32) -> FindFunction
-    ensures { λ r. ⌜ (uncounted r ≡ findFunctionOf (now (file .entry)) table count address) × CountedReads r ⌝ }
+// The record that halving finds in the opened table.
+pub fn find_function(file: &[u8], opened: ExceptionData, address: u32) -> FindFunction
+    ensures { λ r. ⌜ (uncounted r ≡ findFunctionOf (now (file .entry)) opened address) × CountedReads r ⌝ }
 {
     if answer::FILE_LIMIT < file.len() {
-        return FindFunction::Refused(Refusal {
-            number: answer::LIMIT,
-        });
+        return FindFunction::Refused(answer::refuse(Reason::Limit));
     }
-    let halved = search_table(file, table, count, address);
+    let halved = search_table(file, opened.table, opened.count, address);
     let reads = halved.reads;
-    let outcome = halved.outcome;
-    match outcome {
-        SearchEnd::Holds(index) => match sought_at(file, table, index) {
+    let end = halved.end;
+    match end {
+        SearchEnd::Stopped(index) => match sought_at(file, opened.table, index) {
             CheckAndFind::Value(holder) => FindFunction::Value(holder, reads),
             CheckAndFind::Refused(k) => FindFunction::Refused(k),
         },
-        SearchEnd::Gone(index) => match sought_at(file, table, index) {
-            CheckAndFind::Value(holder) => FindFunction::Value(holder, reads),
-            CheckAndFind::Refused(k) => FindFunction::Refused(k),
-        },
-        SearchEnd::Nothing => FindFunction::Refused(Refusal {
-            number: answer::NOT_FOUND,
-        }),
+        SearchEnd::Nothing => FindFunction::Refused(answer::refuse(Reason::NotFound)),
     }
 }
 
 // The same of a table that is checked first.
-pub fn check_and_find(file: &[u8], table: usize, count: usize, address: u32) -> CheckAndFind
-    ensures { λ r. ⌜ r ≡ checkAndFindOf (now (file .entry)) table count address ⌝ }
+pub fn check_and_find(file: &[u8], opened: ExceptionData, address: u32) -> CheckAndFind
+    ensures { λ r. ⌜ r ≡ checkAndFindOf (now (file .entry)) opened address ⌝ }
 {
-    match runtime_table::check(file, table, count) {
-        CheckTable::Ordered => match find_function(file, table, count, address) {
+    match runtime_table::check(file, opened.table, opened.count) {
+        CheckTable::Ordered => match find_function(file, opened, address) {
             FindFunction::Value(holder, _) => CheckAndFind::Value(holder),
             FindFunction::Refused(k) => CheckAndFind::Refused(k),
         },
@@ -86,7 +79,7 @@ pub fn check_and_find(file: &[u8], table: usize, count: usize, address: u32) -> 
     }
 }
 
-// The record at which a search ended.
+// The record at which a search stopped.
 fn sought_at(file: &[u8], table: usize, index: usize) -> CheckAndFind
     ensures { λ r. ⌜ r ≡ soughtAt (now (file .entry)) table index ⌝ }
 {
@@ -110,8 +103,8 @@ fn search_table(file: &[u8], table: usize, count: usize, address: u32) -> Search
 // Halving on a table that lies in the file: no read is tested.
 fn inside(file: &[u8], table: usize, count: usize, address: u32) -> Search
     requires { ⌜ length (now file) ≤ fileLimit ⌝ }
-    requires { ⌜ liesOf x64 (length (now file)) table count ≡ true ⌝ }
-    ensures { λ r. ⌜ r ≡ halving (tableOf x64 (now (file .entry)) table) address count ⌝ }
+    requires { ⌜ liesOf (length (now file)) table count ≡ true ⌝ }
+    ensures { λ r. ⌜ r ≡ searchOf (halving (tableOf (now (file .entry)) table) address count) ⌝ }
 {
     let mut low: usize = 0;
     let mut high: usize = count;
@@ -119,15 +112,15 @@ fn inside(file: &[u8], table: usize, count: usize, address: u32) -> Search
     while low < high {
         let middle = (low + high) / 2;
         let at = table + runtime_function::SIZE * middle;
-        let begin = word_at(file, at);
-        let end = word_at(file, at + 4);
+        let begin = u32_at(file, at);
+        let end = u32_at(file, at + 4);
         reads += 1;
         if address < begin {
             high = middle;
         } else {
             if address < end {
                 return Search {
-                    outcome: SearchEnd::Holds(middle),
+                    end: SearchEnd::Stopped(middle),
                     reads,
                 };
             }
@@ -135,7 +128,7 @@ fn inside(file: &[u8], table: usize, count: usize, address: u32) -> Search
         }
     }
     Search {
-        outcome: SearchEnd::Nothing,
+        end: SearchEnd::Nothing,
         reads,
     }
 }
@@ -143,7 +136,7 @@ fn inside(file: &[u8], table: usize, count: usize, address: u32) -> Search
 // Halving on any bytes and numbers: each record is tested as it is read.
 fn tested(file: &[u8], table: usize, count: usize, address: u32) -> Search
     requires { ⌜ length (now file) ≤ fileLimit ⌝ }
-    ensures { λ r. ⌜ r ≡ halving (tableOf x64 (now (file .entry)) table) address count ⌝ }
+    ensures { λ r. ⌜ r ≡ searchOf (halving (tableOf (now (file .entry)) table) address count) ⌝ }
 {
     let mut low: usize = 0;
     let mut high: usize = count;
@@ -158,7 +151,7 @@ fn tested(file: &[u8], table: usize, count: usize, address: u32) -> Search
                 } else {
                     if address < e.end {
                         return Search {
-                            outcome: SearchEnd::Holds(index),
+                            end: SearchEnd::Stopped(index),
                             reads,
                         };
                     }
@@ -167,26 +160,26 @@ fn tested(file: &[u8], table: usize, count: usize, address: u32) -> Search
             }
             ReadRuntimeFunction::Refused(_) => {
                 return Search {
-                    outcome: SearchEnd::Gone(index),
+                    end: SearchEnd::Stopped(index),
                     reads,
                 };
             }
         }
     }
     Search {
-        outcome: SearchEnd::Nothing,
+        end: SearchEnd::Nothing,
         reads,
     }
 }
 
-fn word_at(s: &[u8], at: usize) -> u32
+fn u32_at(s: &[u8], at: usize) -> u32
     requires { ⌜ at + 4 ≤ length (now s) ⌝ }
     ensures { λ r. ⌜ r ≡ numberAt false 4 (now (s .entry)) at ⌝ }
 {
-    word_of(s[at], s[at + 1], s[at + 2], s[at + 3])
+    u32_of(s[at], s[at + 1], s[at + 2], s[at + 3])
 }
 
-fn word_of(a: u8, b: u8, c: u8, d: u8) -> u32
+fn u32_of(a: u8, b: u8, c: u8, d: u8) -> u32
     ensures { λ r. ⌜ r ≡ a + 256 * b + 65536 * c + 16777216 * d ⌝ }
 {
     (a as u32) + 256 * (b as u32) + 65536 * (c as u32) + 16777216 * (d as u32)

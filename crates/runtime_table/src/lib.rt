@@ -2,8 +2,9 @@
 ghost use mathlib.Core.Path.{_≡_};
 ghost use mathlib.Core.Bool.{true};
 ghost use lib.ListN.{length};
-ghost use Rattle.runtime_table.specs.Table.{tableOf, x64, getEntryOf, liesOf, ordered};
+ghost use Rattle.runtime_table.specs.Table.{tableOf, getEntryOf, liesOf, ordered};
 ghost use Rattle.runtime_table.specs.Check.{checkOf};
+use answer::Reason;
 use answer::Refusal;
 use runtime_function::ReadRuntimeFunction;
 
@@ -19,39 +20,35 @@ pub fn check(file: &[u8], table: usize, count: usize) -> CheckTable
     ensures { λ r. ⌜ r ≡ checkOf (now (file .entry)) table count ⌝ }
 {
     if answer::FILE_LIMIT < file.len() {
-        return CheckTable::Refused(Refusal {
-            number: answer::LIMIT,
-        });
+        return CheckTable::Refused(answer::refuse(Reason::Limit));
     }
     if lies(file.len(), table, count) {
         if in_order(file, table, count) {
             return CheckTable::Ordered;
         }
-        return CheckTable::Refused(Refusal {
-            number: answer::ORDER,
-        });
+        return CheckTable::Refused(answer::refuse(Reason::Order));
     }
-    CheckTable::Refused(Refusal {
-        number: answer::SHORT,
-    })
+    // Records of more than 64 bits together are in no file.
+    if LAST / runtime_function::SIZE < count {
+        return CheckTable::Refused(answer::beyond());
+    }
+    CheckTable::Refused(answer::cut(table, runtime_function::SIZE * count))
 }
 
 // The record at an index of the table at `table`, however many records it has.
 pub fn get_entry(s: &[u8], table: usize, index: usize) -> ReadRuntimeFunction
     ensures { λ r. ⌜ r ≡ getEntryOf (now (s .entry)) table index ⌝ }
 {
-    // A record past 64 bits is past the bytes.
+    // A record that begins past 64 bits is in no file.
     if (LAST - table) / runtime_function::SIZE < index {
-        return ReadRuntimeFunction::Refused(Refusal {
-            number: answer::SHORT,
-        });
+        return ReadRuntimeFunction::Refused(answer::beyond());
     }
     runtime_function::read(s, table + runtime_function::SIZE * index)
 }
 
 // Whether `count` records from `table` lie within `len` bytes.
 pub fn lies(len: usize, table: usize, count: usize) -> bool
-    ensures { λ r. ⌜ r ≡ liesOf x64 len table count ⌝ }
+    ensures { λ r. ⌜ r ≡ liesOf len table count ⌝ }
 {
     if count == 0 {
         return true;
@@ -62,9 +59,10 @@ pub fn lies(len: usize, table: usize, count: usize) -> bool
     fields::fits(len, table, runtime_function::SIZE * count)
 }
 
+// The records are passed in table order, each with the end of the one before it.
 fn in_order(file: &[u8], table: usize, count: usize) -> bool
-    requires { ⌜ liesOf x64 (length (now file)) table count ≡ true ⌝ }
-    ensures { λ r. ⌜ r ≡ ordered (tableOf x64 (now (file .entry)) table) count ⌝ }
+    requires { ⌜ liesOf (length (now file)) table count ≡ true ⌝ }
+    ensures { λ r. ⌜ r ≡ ordered (tableOf (now (file .entry)) table) count ⌝ }
 {
     let mut index: usize = 0;
     let mut end: u32 = 0;

@@ -1,12 +1,11 @@
-// C scope tables: the one in the data of an exception handler, which is lent as that part of the file by itself, and its entries, which are
-// written too; and the scope table of an unwind info, which is that in the data of its exception handler.
+// C scope tables: the one in the data of an exception handler, which is lent by itself or found by its unwind info in a file; and its
+// entries, which are written too.
 ghost use mathlib.Core.Path.{_≡_};
-ghost use mathlib.Core.Bool.{false};
-ghost use Rattle.fields.specs.Field.{writeOf, stored};
-ghost use Rattle.layout.specs.Layout.{writeBy};
-ghost use Rattle.scope_table.specs.Scope.{scopeTableEntry, numbersOf, readOf, countInOf, entryInOf};
-ghost use Rattle.answer.specs.Answer.{refuseOf, notFound};
-ghost use Rattle.scope_table.specs.Handler.{dataAt, countAtOf, entryAtOf};
+ghost use Rattle.fields.specs.Field.{writeOf};
+ghost use Rattle.scope_table.specs.Scope.{readOf, writeOut, countFrom, entryFrom, countInOf, entryInOf};
+ghost use Rattle.scope_table.specs.Handler.{tableAt, countAtOf, entryAtOf};
+ghost use Rattle.scope_table.specs.Code.{tableIn};
+use answer::Reason;
 use answer::Refusal;
 use cursor::Cursor;
 use cursor::NextU32;
@@ -38,37 +37,43 @@ pub enum CountScopes {
     Refused(Refusal),
 }
 
+// Where the data of an exception handler starts in the file: it runs to the end of the file.
+enum HandlerData {
+    Start(usize),
+    Refused(Refusal),
+}
+
 // How many entries the table in the data of a handler has.
 pub fn count_in(part: &[u8]) -> CountScopes
     ensures { λ r. ⌜ r ≡ countInOf (now (part .entry)) ⌝ }
 {
-    match Cursor::new(0).next_u32(part, false) {
-        NextU32::Value(n) => {
-            if n.value as usize <= (part.len() - HEAD) / SIZE {
-                return CountScopes::Value(n.value);
-            }
-            CountScopes::Refused(Refusal {
-                number: answer::CONTRADICTION,
-            })
-        }
-        NextU32::Refused(k) => CountScopes::Refused(k),
-    }
+    count_from(part, 0)
 }
 
 // The entry at an index of the table in the data of a handler.
 pub fn entry_in(part: &[u8], index: usize) -> ReadScopeTableEntry
     ensures { λ r. ⌜ r ≡ entryInOf (now (part .entry)) index ⌝ }
 {
-    match count_in(part) {
-        CountScopes::Value(n) => {
-            if index < n as usize {
-                return read(part, HEAD + SIZE * index);
-            }
-            ReadScopeTableEntry::Refused(Refusal {
-                number: answer::NOT_FOUND,
-            })
-        }
-        CountScopes::Refused(k) => ReadScopeTableEntry::Refused(k),
+    entry_from(part, 0, index)
+}
+
+// How many entries the table of the unwind info at an offset of the file has.
+pub fn count_at(file: &[u8], at: usize) -> CountScopes
+    ensures { λ r. ⌜ r ≡ countAtOf (now (file .entry)) at ⌝ }
+{
+    match handler_data(file, at) {
+        HandlerData::Start(start) => count_from(file, start),
+        HandlerData::Refused(k) => CountScopes::Refused(k),
+    }
+}
+
+// The entry at an index of the table of the unwind info at an offset of the file.
+pub fn entry_at(file: &[u8], at: usize, index: usize) -> ReadScopeTableEntry
+    ensures { λ r. ⌜ r ≡ entryAtOf (now (file .entry)) at index ⌝ }
+{
+    match handler_data(file, at) {
+        HandlerData::Start(start) => entry_from(file, start, index),
+        HandlerData::Refused(k) => ReadScopeTableEntry::Refused(k),
     }
 }
 
@@ -100,7 +105,7 @@ pub fn read(s: &[u8], at: usize) -> ReadScopeTableEntry
 }
 
 pub fn write(out: &mut [u8], at: usize, e: ScopeTableEntry) -> WriteBytes
-    ensures { λ r. ⌜ (r ≡ writeOf 16 (now (out .entry)) at) × (now (out .exit) ≡ stored (now (out .entry)) at (writeBy false scopeTableEntry (numbersOf e))) ⌝ }
+    ensures { λ r. ⌜ (r ≡ writeOf 16 (now (out .entry)) at) × (now (out .exit) ≡ writeOut (now (out .entry)) at e) ⌝ }
 {
     if fields::fits(out.len(), at, SIZE) {
         // There is room for the entry, so none of these is refused.
@@ -110,64 +115,58 @@ pub fn write(out: &mut [u8], at: usize, e: ScopeTableEntry) -> WriteBytes
         fields::write_u32(out, at + 12, e.target, false);
         return WriteBytes::Done;
     }
-    WriteBytes::Refused(Refusal {
-        number: answer::ROOM,
-    })
+    WriteBytes::Refused(answer::refuse(Reason::Room))
 }
 
-enum HandlerData {
-    Part { start: usize, length: usize },
-    Refused(Refusal),
-}
-
-// How many entries the table of the unwind info at an offset of the file has.
-pub fn count_at(file: &[u8], at: usize) -> CountScopes
-    ensures { λ r. ⌜ r ≡ countAtOf (now (file .entry)) at ⌝ }
+// How many entries the table at `start` has, whose data runs to the end of the bytes.
+fn count_from(s: &[u8], start: usize) -> CountScopes
+    ensures { λ r. ⌜ r ≡ countFrom (now (s .entry)) start ⌝ }
 {
-    match handler_data(file, at) {
-        HandlerData::Part { start, length } => count_in(&file[start..start + length]),
-        HandlerData::Refused(k) => CountScopes::Refused(k),
+    match Cursor::new(start).next_u32(s, false) {
+        NextU32::Value(n) => {
+            if n.value as usize <= (s.len() - n.next.at) / SIZE {
+                return CountScopes::Value(n.value);
+            }
+            CountScopes::Refused(answer::refuse(Reason::Contradiction))
+        }
+        NextU32::Refused(k) => CountScopes::Refused(k),
     }
 }
 
-// The entry at an index of the table of the unwind info at an offset of the file.
-pub fn entry_at(file: &[u8], at: usize, index: usize) -> ReadScopeTableEntry
-    ensures { λ r. ⌜ r ≡ entryAtOf (now (file .entry)) at index ⌝ }
+fn entry_from(s: &[u8], start: usize, index: usize) -> ReadScopeTableEntry
+    ensures { λ r. ⌜ r ≡ entryFrom (now (s .entry)) start index ⌝ }
 {
-    match handler_data(file, at) {
-        HandlerData::Part { start, length } => entry_in(&file[start..start + length], index),
-        HandlerData::Refused(k) => ReadScopeTableEntry::Refused(k),
+    match count_from(s, start) {
+        CountScopes::Value(n) => {
+            if index < n as usize {
+                return read(s, start + HEAD + SIZE * index);
+            }
+            ReadScopeTableEntry::Refused(answer::refuse(Reason::NotFound))
+        }
+        CountScopes::Refused(k) => ReadScopeTableEntry::Refused(k),
     }
 }
 
 fn handler_data(file: &[u8], at: usize) -> HandlerData
-    ensures { λ r. ⌜ r ≡ dataAt (now (file .entry)) at ⌝ }
+    ensures { λ r. ⌜ tableIn r ≡ tableAt (now (file .entry)) at ⌝ }
 {
     match unwind_info::read_info(file, at) {
         ReadInfo::Value(i) => {
             let follows = i.follows;
             match follows {
-                Follows::Nothing => HandlerData::Refused(no_handler()),
-                Follows::Chained(_) => HandlerData::Refused(no_handler()),
-                Follows::Handler {
-                    kind,
-                    address: _,
-                    start,
-                    length,
-                } => match kind {
-                    HandlerKind::Exception => HandlerData::Part { start, length },
-                    HandlerKind::Termination => HandlerData::Refused(no_handler()),
-                },
+                Follows::Nothing => HandlerData::Refused(answer::refuse(Reason::NotFound)),
+                Follows::Chained(_) => HandlerData::Refused(answer::refuse(Reason::NotFound)),
+                Follows::Handler(h) => {
+                    let kind = h.kind;
+                    match kind {
+                        HandlerKind::Exception => HandlerData::Start(h.start),
+                        HandlerKind::Termination => HandlerData::Refused(answer::refuse(
+                            Reason::NotFound,
+                        )),
+                    }
+                }
             }
         }
         ReadInfo::Refused(k) => HandlerData::Refused(k),
-    }
-}
-
-fn no_handler() -> Refusal
-    ensures { λ r. ⌜ r ≡ refuseOf notFound ⌝ }
-{
-    Refusal {
-        number: answer::NOT_FOUND,
     }
 }

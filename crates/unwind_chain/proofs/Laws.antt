@@ -1,323 +1,347 @@
--- The laws of the walk over links: what the proofs of this crate and of its callers cite.
+-- The laws of a chain: what the proofs of this crate and of its callers cite.
 -- Assumes nothing.
 use mathlib.Core.Path.{_≡_, refl, sym, ap, _∙_}
-use mathlib.Core.List.{List}
-use mathlib.Core.Bool.{Bool, true, false}
-use Prim.Native.Nat.{ℕ, zero, suc, _+_, _-_, _%_, _≤_, _<_}
+use mathlib.Core.List.{List, _∷_}
+use Prim.Native.Nat.{ℕ, zero, suc, _+_, _-_, _≤_, _<_}
 use native.Mathlib.Omega.{arith}
 use lib.ListN.{length}
-use lib.Dec.{eqb}
-use borrow.Author.Tests.{le-leb, lt-leb, eqb-true, eqb-false}
-use Rattle.answer.specs.Answer.{refuseOf, limit, links}
-use Rattle.answer.specs.Test.{pick, fileLimit}
+use Rattle.answer.specs.Answer.{refuseOf, links}
+use Rattle.answer.specs.Test.{fileLimit}
 use Rattle.answer.specs.declared.Refusal.{Refusal}
-use Rattle.answer.proofs.Laws.{must-on, must-off}
 use Rattle.runtime_function.specs.declared.RuntimeFunction.{RuntimeFunction}
-use Rattle.runtime_function.specs.declared.ReadRuntimeFunction.{ReadRuntimeFunction}
-use Rattle.runtime_function.specs.declared.ReadRuntimeFunction.the-variants as found
-use Rattle.pe_mapping.specs.declared.FindOffset.{FindOffset}
-use Rattle.pe_mapping.specs.declared.FindOffset.the-variants as mapped
+use Rattle.pe_mapping.specs.declared.Sections.{Sections}
 use Rattle.unwind_operation.specs.declared.UnwindCode.{UnwindCode}
 use Rattle.unwind_info.specs.declared.UnwindInfo.{UnwindInfo}
-use Rattle.unwind_info.specs.declared.HandlerKind.{HandlerKind}
+use Rattle.unwind_info.specs.declared.UnwindHandler.{UnwindHandler}
 use Rattle.unwind_info.specs.declared.Follows.{Follows}
 use Rattle.unwind_info.specs.declared.Follows.the-variants.{Nothing, Chained, Handler}
-use Rattle.unwind_codes.specs.Codes.{Whole, has, refusedWhole, wholeAt, checkedOf}
+use Rattle.unwind_codes.specs.Codes.{WholeInfo, has, refusedWhole, onWholeInfo, wholeInfoAt, checkInfoOf}
 use Rattle.unwind_codes.specs.declared.CheckedInfo.{CheckedInfo}
 use Rattle.unwind_codes.specs.declared.CheckInfo.{CheckInfo}
 use Rattle.unwind_codes.specs.declared.CheckInfo.the-variants as checked
 use Rattle.unwind_codes.proofs.Laws.{Has, checked-told, checked-refused}
 use Rattle.unwind_codes.proofs.Theorems.{whole-most}
-use Rattle.unwind_links.specs.Links.{linkLimit, onMapped, mappedBy, recordAtOf, onRecord, onChained}
-use Rattle.unwind_links.specs.declared.Sections.{Sections}
-use Rattle.unwind_links.proofs.Laws.{unwind-odd, unwind-even}
-use Rattle.unwind_chain.specs.Linked.{Link, Lead, odd, chained, last, refusedLead, onWhole, infoLead, leadOf, Reaches, reaches, refusedReaches, oneMore, before, reachesBy, reachesFrom, reachesOf, codesOfAll, totalsOf, turnOf}
-use Rattle.unwind_chain.specs.declared.Turn.{Turn}
-use Rattle.unwind_chain.specs.declared.Turn.the-variants as turn
+use Rattle.unwind_links.specs.Links.{linkLimit, locateInfoOf, onChained}
+use Rattle.unwind_links.specs.Answers.{onLocateInfo}
+use Rattle.unwind_links.specs.declared.InfoPlace.{InfoPlace}
+use Rattle.unwind_links.specs.declared.LocateInfo.{LocateInfo}
+use Rattle.unwind_links.specs.declared.LocateInfo.the-variants as locate
+use Rattle.unwind_links.proofs.Laws.{Within, located-told, located-over}
+use Rattle.unwind_chain.specs.Chain.{Link, ReadLink, link, refusedLink, onLink, linkAt, Chain, ReadChain, chain, refusedChain, onChain, single, before, chainFrom, infoLimit, lastLinks, codesOfAll, totalsOf}
+use Rattle.unwind_chain.specs.Code.{linkedOf}
+use Rattle.unwind_chain.specs.declared.Linked.{Linked}
+use Rattle.unwind_chain.specs.declared.Linked.the-variants as linked
+use Rattle.unwind_chain.specs.declared.Totals.{Totals}
 use Rattle.unwind_chain.specs.declared.CountAllCodes.{CountAllCodes}
-use Rattle.unwind_chain.specs.declared.CountAllCodes.the-variants.{Value, Refused}
+use Rattle.unwind_chain.specs.declared.CountAllCodes.the-variants as count
 
--- a step, a law for each outcome
-pub step-odd : (s : List ℕ) (sections : Sections) (r : RuntimeFunction) → r .unwind % 2 ≡ 1 → odd (r .unwind - 1) ≡ leadOf s sections r
-unfolding leadOf
-step-odd s sections r e = unwind-odd (r .unwind) (λ a. odd (a - 1)) _ e
+by-nothing : (l : Link) → l .info .follows ≡ Nothing → linked.Last (l .place .links) (length (l .codes)) ≡ linkedOf (link l)
+by-nothing l e = rw e
 
-module _ (s : List ℕ) (sections : Sections) (r : RuntimeFunction) (x : r .unwind % 2 ≡ 1 → ⊥) {m : FindOffset} (e : m ≡ mappedBy s sections (r .unwind)) where
-  pub step-unmapped : {k : Refusal} → m ≡ mapped.Refused k → refusedLead k ≡ leadOf s sections r
-  unfolding leadOf
-  step-unmapped f = rw (← unwind-even (r .unwind) (λ a. odd (a - 1)) _ x, ← e, f)
+by-handler : (l : Link) {y : UnwindHandler} → l .info .follows ≡ Handler y
+    → linked.Last (l .place .links) (length (l .codes)) ≡ linkedOf (link l)
+by-handler l e = rw e
 
-  module _ {o : ℕ} (f : m ≡ mapped.Value o) where
-    pub step-refused : {k : Refusal} → refusedWhole k ≡ wholeAt s o → refusedLead k ≡ leadOf s sections r
-    unfolding leadOf
-    step-refused g = rw (← unwind-even (r .unwind) (λ a. odd (a - 1)) _ x, ← e, f, ← g)
+by-chained : (l : Link) {y : RuntimeFunction} → l .info .follows ≡ Chained y
+    → linked.Chained y (l .place .links) (length (l .codes)) ≡ linkedOf (link l)
+by-chained l e = rw e
 
-    pub step-info : {i : UnwindInfo} {cs : List UnwindCode} → has i cs ≡ wholeAt s o → infoLead (record { begin = r .begin; offset = o; info = i; codes = cs }) ≡ leadOf s sections r
-    unfolding leadOf
-    step-info g = rw (← unwind-even (r .unwind) (λ a. odd (a - 1)) _ x, ← e, f, ← g)
+-- the info of a record, a law for each outcome
+module _ (s : List ℕ) (sections : Sections) (r : RuntimeFunction) (n : ℕ) {m : LocateInfo} (e : m ≡ locateInfoOf s sections r n) where
+  pub link-unlocated : {k : Refusal} → m ≡ locate.Refused k → refusedLink k ≡ linkAt s sections r n
+  unfolding linkAt
+  link-unlocated f = rw (← e, f)
 
-last-nothing : (l : Link) → l .info .follows ≡ Nothing → last l ≡ infoLead l
-last-nothing l e = rw e
+  module _ {p : InfoPlace} (f : m ≡ locate.Value p) where
+    pub link-refused : {k : Refusal} → refusedWhole k ≡ wholeInfoAt s (p .offset) → refusedLink k ≡ linkAt s sections r n
+    unfolding linkAt
+    link-refused g = rw (← e, f, ← g)
 
-last-handler : (l : Link) {kind : HandlerKind} {address start size : ℕ} → l .info .follows ≡ Handler kind address start size → last l ≡ infoLead l
-last-handler l e = rw e
+    pub link-is : {i : UnwindInfo} {cs : List UnwindCode} → has i cs ≡ wholeInfoAt s (p .offset)
+        → link (record { place = p; info = i; codes = cs }) ≡ linkAt s sections r n
+    unfolding linkAt
+    link-is g = rw (← e, f, ← g)
 
-chained-on : (l : Link) {e : RuntimeFunction} → l .info .follows ≡ Chained e → chained l e ≡ infoLead l
-chained-on l e = rw e
+    -- as the code has it
+    module _ {x : CheckInfo} (g : x ≡ checkInfoOf s (p .offset)) where
+      pub linked-refused : {k : Refusal} → x ≡ checked.Refused k → linked.Refused k ≡ linkedOf (linkAt s sections r n)
+      linked-refused d = ap linkedOf (link-refused (checked-refused (wholeInfoAt s (p .offset)) (sym d ∙ g)))
 
--- a step as the code has it
-module _ (s : List ℕ) (sections : Sections) (r : RuntimeFunction) where
-  pub turn-odd : r .unwind % 2 ≡ 1 → turn.Odd (r .unwind - 1) ≡ turnOf (leadOf s sections r)
-  turn-odd e = ap turnOf (step-odd s sections r e)
+      module _ {c : CheckedInfo} (d : x ≡ checked.Value c) where
+        its : Has (wholeInfoAt s (p .offset)) c
+        its = checked-told (wholeInfoAt s (p .offset)) (sym d ∙ g)
 
-  module _ (x : r .unwind % 2 ≡ 1 → ⊥) {m : FindOffset} (e : m ≡ mappedBy s sections (r .unwind)) where
-    pub turn-unmapped : {k : Refusal} → m ≡ mapped.Refused k → turn.Refused k ≡ turnOf (leadOf s sections r)
-    turn-unmapped f = ap turnOf (step-unmapped s sections r x e f)
+        abbrev read : Link
+        read = record { place = p; info = c .info; codes = its .codes }
 
-    module _ {o : ℕ} (f : m ≡ mapped.Value o) {w : CheckInfo} (g : w ≡ checkedOf (wholeAt s o)) where
-      pub turn-refused : {k : Refusal} → w ≡ checked.Refused k → turn.Refused k ≡ turnOf (leadOf s sections r)
-      turn-refused d = ap turnOf (step-refused s sections r x e f (checked-refused (wholeAt s o) (sym d ∙ g)))
+        linked-by : linkedOf (link read) ≡ linkedOf (linkAt s sections r n)
+        linked-by = ap linkedOf (link-is (its .is))
 
-      module _ {c : CheckedInfo} (d : w ≡ checked.Value c) where
-        its : Has (wholeAt s o) c
-        its = checked-told (wholeAt s o) (sym d ∙ g)
+        pub linked-nothing : c .info .follows ≡ Nothing → linked.Last (p .links) (c .codes) ≡ linkedOf (linkAt s sections r n)
+        linked-nothing h = ap (linked.Last (p .links)) (its .many) ∙ by-nothing read h ∙ linked-by
 
-        abbrev link : Link
-        link = record { begin = r .begin; offset = o; info = c .info; codes = its .codes }
+        pub linked-handler : {y : UnwindHandler} → c .info .follows ≡ Handler y
+            → linked.Last (p .links) (c .codes) ≡ linkedOf (linkAt s sections r n)
+        linked-handler h = ap (linked.Last (p .links)) (its .many) ∙ by-handler read h ∙ linked-by
 
-        is : infoLead link ≡ leadOf s sections r
-        is = step-info s sections r x e f (its .is)
+        pub linked-chained : {y : RuntimeFunction} → c .info .follows ≡ Chained y
+            → linked.Chained y (p .links) (c .codes) ≡ linkedOf (linkAt s sections r n)
+        linked-chained {y} h = ap (linked.Chained y (p .links)) (its .many) ∙ by-chained read h ∙ linked-by
 
-        pub turn-nothing : c .info .follows ≡ Nothing → turn.Last (c .codes) ≡ turnOf (leadOf s sections r)
-        turn-nothing h = ap turn.Last (its .many) ∙ ap turnOf (last-nothing link h ∙ is)
+-- what an info that was read says: where it is, and that its codes are those there
+pub record Located (s : List ℕ) (sections : Sections) (r : RuntimeFunction) (n : ℕ) (l : Link) : Type 0 where
+  pub place : locate.Value (l .place) ≡ locateInfoOf s sections r n
+  pub whole : has (l .info) (l .codes) ≡ wholeInfoAt s (l .place .offset)
 
-        pub turn-handler : {kind : HandlerKind} {address start size : ℕ} → c .info .follows ≡ Handler kind address start size → turn.Last (c .codes) ≡ turnOf (leadOf s sections r)
-        turn-handler h = ap turn.Last (its .many) ∙ ap turnOf (last-handler link h ∙ is)
+same-link : {l m : Link} → link l ≡ link m → l ≡ m
+same-link e = cc
 
-        pub turn-chained : {n : RuntimeFunction} → c .info .follows ≡ Chained n → turn.Chained n (c .codes) ≡ turnOf (leadOf s sections r)
-        turn-chained {n} h = ap (turn.Chained n) (its .many) ∙ ap turnOf (chained-on link h ∙ is)
+no-link : {l : Link} {k : Refusal} → link l ≡ refusedLink k → ⊥
+no-link e = let z : _≡_ {A = ℕ} 0 1 = cc in omega arith
 
--- what a step as the code has it tells of the step
-pub record IsChained (st : Lead) (e : RuntimeFunction) (n : ℕ) : Type 0 where
-  pub link : Link
-  pub is : st ≡ chained link e
-  pub many : n ≡ length (link .codes)
+-- the info at a place that was located
+abbrev readAt : List ℕ → LocateInfo → ReadLink
+readAt s m =
+    onLocateInfo m refusedLink (λ p.
+    onWholeInfo (wholeInfoAt s (p .offset)) refusedLink (λ i cs. link (record { place = p; info = i; codes = cs })))
 
-pub record IsLast (st : Lead) (n : ℕ) : Type 0 where
-  pub link : Link
-  pub is : st ≡ last link
-  pub many : n ≡ length (link .codes)
+module _ (s : List ℕ) (sections : Sections) (r : RuntimeFunction) (n : ℕ) where
+  by-whole : (p : InfoPlace) → locate.Value p ≡ locateInfoOf s sections r n → (w : WholeInfo) → w ≡ wholeInfoAt s (p .offset) → {l : Link}
+      → link l ≡ onWholeInfo w refusedLink (λ i cs. link (record { place = p; info = i; codes = cs })) → Located s sections r n l
+  by-whole p d (has i cs) f e = rw (same-link e) (record { place = d; whole = f })
+  by-whole p d (refusedWhole k) f e = absurd (no-link e)
 
-same-odd : {a b : ℕ} → turn.Odd a ≡ turn.Odd b → a ≡ b
-same-odd e = cc
+  by-place : (m : LocateInfo) → m ≡ locateInfoOf s sections r n → {l : Link}
+      → link l ≡ readAt s m → Located s sections r n l
+  by-place (locate.Value p) d e = by-whole p d (wholeInfoAt s (p .offset)) refl e
+  by-place (locate.Refused k) d e = absurd (no-link e)
 
-same-record : {e f : RuntimeFunction} {n m : ℕ} → turn.Chained e n ≡ turn.Chained f m → e ≡ f
-same-record e = cc
+  pub link-told : {l : Link} → link l ≡ linkAt s sections r n → Located s sections r n l
+  unfolding linkAt
+  link-told e = by-place (locateInfoOf s sections r n) refl e
 
-same-many : {e f : RuntimeFunction} {n m : ℕ} → turn.Chained e n ≡ turn.Chained f m → n ≡ m
-same-many e = cc
+  pub located-link : {l : Link} → Located s sections r n l → link l ≡ linkAt s sections r n
+  located-link d = link-is s sections r n (d .place) refl (d .whole)
 
-same-last : {n m : ℕ} → turn.Last n ≡ turn.Last m → n ≡ m
-same-last e = cc
+  -- the file is not too long, and the links that led there are the `n` before it or more, and 32 at most
+  pub link-within : {l : Link} → link l ≡ linkAt s sections r n → (length s ≤ fileLimit) × Within n (l .place)
+  link-within e = located-told s sections r n (link-told e .place)
 
-same-refused : {k j : Refusal} → turn.Refused k ≡ turn.Refused j → k ≡ j
-same-refused e = cc
+  pub link-over : {q : Refusal} → length s ≤ fileLimit → linkLimit < n → q ≡ refuseOf links → refusedLink q ≡ linkAt s sections r n
+  link-over l h d = link-unlocated s sections r n (located-over s sections r n l h refl) (ap locate.Refused (sym d))
 
-told-odd : (st : Lead) {a : ℕ} → turn.Odd a ≡ turnOf st → st ≡ odd a
-told-odd (odd b) e = ap odd (sym (same-odd e))
-told-odd (chained l r) e = absurd (let z : _≡_ {A = ℕ} 0 1 = cc in omega arith)
-told-odd (last l) e = absurd (let z : _≡_ {A = ℕ} 0 1 = cc in omega arith)
-told-odd (refusedLead k) e = absurd (let z : _≡_ {A = ℕ} 0 1 = cc in omega arith)
+-- a chain, by its first info and by the chain of the record that this is chained to
+module _ (on : RuntimeFunction → ℕ → ReadChain) where
+  abbrev pub chainBy : ReadLink → ReadChain
+  chainBy x =
+      onLink x refusedChain (λ l.
+      onChained (l .info .follows)
+      (chain (single l))
+      (λ e. onChain (on e (l .place .links + 1)) refusedChain (λ c. chain (before l c))))
 
-told-chained : (st : Lead) {f : RuntimeFunction} {n : ℕ} → turn.Chained f n ≡ turnOf st → IsChained st f n
-told-chained (odd b) e = absurd (let z : _≡_ {A = ℕ} 0 1 = cc in omega arith)
-told-chained (chained l r) e = record { link = l; is = ap (chained l) (sym (same-record e)); many = same-many e }
-told-chained (last l) e = absurd (let z : _≡_ {A = ℕ} 0 1 = cc in omega arith)
-told-chained (refusedLead k) e = absurd (let z : _≡_ {A = ℕ} 0 1 = cc in omega arith)
+pub chain-suc : (s : List ℕ) (sections : Sections) (infos : ℕ) (r : RuntimeFunction) (n : ℕ)
+    → chainFrom (suc infos) s sections r n ≡ chainBy (λ e m. chainFrom infos s sections e m) (linkAt s sections r n)
+unfolding chainFrom
+chain-suc s sections infos r n = refl
 
-told-last : (st : Lead) {n : ℕ} → turn.Last n ≡ turnOf st → IsLast st n
-told-last (odd b) e = absurd (let z : _≡_ {A = ℕ} 0 1 = cc in omega arith)
-told-last (chained l r) e = absurd (let z : _≡_ {A = ℕ} 0 1 = cc in omega arith)
-told-last (last l) e = record { link = l; is = refl; many = same-last e }
-told-last (refusedLead k) e = absurd (let z : _≡_ {A = ℕ} 0 1 = cc in omega arith)
+-- two ways on that agree give the same chain
+same-follows : (on go : RuntimeFunction → ℕ → ReadChain) (l : Link) (f : Follows)
+    → ((e : RuntimeFunction) → on e (l .place .links + 1) ≡ go e (l .place .links + 1))
+    → onChained f (chain (single l)) (λ e. onChain (on e (l .place .links + 1)) refusedChain (λ c. chain (before l c)))
+    ≡ onChained f (chain (single l)) (λ e. onChain (go e (l .place .links + 1)) refusedChain (λ c. chain (before l c)))
+same-follows on go l Nothing h = refl
+same-follows on go l (Chained e) h = ap (λ (x : ReadChain). onChain x refusedChain (λ c. chain (before l c))) (h e)
+same-follows on go l (Handler y) h = refl
 
-told-refused : (st : Lead) {k : Refusal} → turn.Refused k ≡ turnOf st → st ≡ refusedLead k
-told-refused (odd b) e = absurd (let z : _≡_ {A = ℕ} 0 1 = cc in omega arith)
-told-refused (chained l r) e = absurd (let z : _≡_ {A = ℕ} 0 1 = cc in omega arith)
-told-refused (last l) e = absurd (let z : _≡_ {A = ℕ} 0 1 = cc in omega arith)
-told-refused (refusedLead j) e = ap refusedLead (sym (same-refused e))
-
--- the info is the one at its place in the file, with its codes
-abbrev pub There : List ℕ → Link → Type 0
-There s l = has (l .info) (l .codes) ≡ wholeAt s (l .offset)
-
--- a record that names an info itself
-pub record Names (s : List ℕ) (sections : Sections) (r : RuntimeFunction) (l : Link) : Type 0 where
-  pub even : r .unwind % 2 ≡ 1 → ⊥
-  pub place : mapped.Value (l .offset) ≡ mappedBy s sections (r .unwind)
-  pub there : There s l
-  pub begun : l .begin ≡ r .begin
-
-abbrev pub NotChained : Follows → Type 0
-NotChained Nothing = Unit
-NotChained (Chained r) = ⊥
-NotChained (Handler kind address start size) = Unit
-
--- what a step says of the record
-abbrev pub Facts : List ℕ → Sections → RuntimeFunction → Lead → Type 0
-Facts s sections r (odd a) = (r .unwind % 2 ≡ 1) × (a ≡ r .unwind - 1)
-Facts s sections r (chained l e) = Names s sections r l × (l .info .follows ≡ Chained e)
-Facts s sections r (last l) = Names s sections r l × NotChained (l .info .follows)
-Facts s sections r (refusedLead k) = Unit
-
-module _ (s : List ℕ) (sections : Sections) (r : RuntimeFunction) where
-  facts-info : (l : Link) (f : Follows) → l .info .follows ≡ f → Names s sections r l → Facts s sections r (onChained f (last l) (chained l))
-  facts-info l Nothing e h = (h, rw e tt)
-  facts-info l (Chained n) e h = (h, e)
-  facts-info l (Handler kind address start size) e h = (h, rw e tt)
-
-  module _ (x : r .unwind % 2 ≡ 1 → ⊥) where
-    facts-whole : (o : ℕ) → mapped.Value o ≡ mappedBy s sections (r .unwind) → (w : Whole) → w ≡ wholeAt s o → Facts s sections r (onWhole w refusedLead (λ i cs. infoLead (record { begin = r .begin; offset = o; info = i; codes = cs })))
-    facts-whole o d (has i cs) e =
-        facts-info (record { begin = r .begin; offset = o; info = i; codes = cs }) (i .follows) refl (record { even = x; place = d; there = e; begun = refl })
-    facts-whole o d (refusedWhole k) e = tt
-
-    facts-mapped : (m : FindOffset) → m ≡ mappedBy s sections (r .unwind) → Facts s sections r (onMapped m refusedLead (λ o. onWhole (wholeAt s o) refusedLead (λ i cs. infoLead (record { begin = r .begin; offset = o; info = i; codes = cs }))))
-    facts-mapped (mapped.Value o) d = facts-whole o d (wholeAt s o) refl
-    facts-mapped (mapped.Refused k) d = tt
-
-  facts-by : (b : Bool) → eqb (r .unwind % 2) 1 ≡ b → Facts s sections r (pick {A = ℕ → Lead} b (λ a. odd (a - 1)) (λ a. onMapped (mappedBy s sections a) refusedLead (λ o. onWhole (wholeAt s o) refusedLead (λ i cs. infoLead (record { begin = r .begin; offset = o; info = i; codes = cs })))) (r .unwind))
-  facts-by true e = (eqb-true (r .unwind % 2) 1 e, refl)
-  facts-by false e = facts-mapped (eqb-false (r .unwind % 2) 1 e) (mappedBy s sections (r .unwind)) refl
-
-  pub step-facts : Facts s sections r (leadOf s sections r)
-  unfolding leadOf
-  step-facts = facts-by (eqb (r .unwind % 2) 1) refl
-
--- An info has fewer codes than 2 ^ 27: what a sum of them needs to fit.
-few : (s : List ℕ) (l : Link) → There s l → length (l .codes) ≤ 134217728
-few s l e = let m = whole-most s (l .offset) (l .info) (l .codes) e in omega (arith, m .0, m .1)
-
-module _ (s : List ℕ) (sections : Sections) (r : RuntimeFunction) {t : Turn} (e : t ≡ turnOf (leadOf s sections r)) where
-  chain : {n : RuntimeFunction} {m : ℕ} → t ≡ turn.Chained n m → IsChained (leadOf s sections r) n m
-  chain f = told-chained (leadOf s sections r) (sym f ∙ e)
-
-  end : {m : ℕ} → t ≡ turn.Last m → IsLast (leadOf s sections r) m
-  end f = told-last (leadOf s sections r) (sym f ∙ e)
-
-  pub chained-few : {n : RuntimeFunction} {m : ℕ} → t ≡ turn.Chained n m → m ≤ 134217728
-  chained-few f =
-      let p = chain f in
-      let h = rw (p .is) at (step-facts s sections r) in
-      omega (arith, p .many, few s (p .link) (h .0 .there))
-
-  pub last-few : {m : ℕ} → t ≡ turn.Last m → m ≤ 134217728
-  last-few f =
-      let p = end f in
-      let h = rw (p .is) at (step-facts s sections r) in
-      omega (arith, p .many, few s (p .link) (h .0 .there))
-
--- What is left of the walk, `n` links and `c` codes passed.
-abbrev pub totalsFrom : ℕ → ℕ → Reaches → CountAllCodes
-totalsFrom n c (reaches m ls) = Value (record { links = n + m; codes = c + codesOfAll ls })
-totalsFrom n c (refusedReaches k) = Refused k
-
-abbrev totals : ℕ → ℕ → CountAllCodes
-totals n c = Value (record { links = n; codes = c })
-
-totals-are : {n m c d : ℕ} → n ≡ m → c ≡ d → totals n c ≡ totals m d
-totals-are e f = rw (e, f)
-
-pub totals-start : (w : Reaches) → totalsOf w ≡ totalsFrom 0 0 w
-totals-start (reaches m ls) = totals-are (omega arith) (omega arith)
-totals-start (refusedReaches k) = refl
-
-more : (n c : ℕ) (w : Reaches) → totalsFrom n c (oneMore w) ≡ totalsFrom (n + 1) c w
-more n c (reaches m ls) = totals-are (omega arith) refl
-more n c (refusedReaches k) = refl
-
-more-before : (n c : ℕ) (l : Link) (w : Reaches) → totalsFrom n c (before l (oneMore w)) ≡ totalsFrom (n + 1) (c + length (l .codes)) w
-more-before n c l (reaches m ls) = totals-are (omega arith) (omega arith)
-more-before n c l (refusedReaches k) = refl
+same-by : (on go : RuntimeFunction → ℕ → ReadChain) (x : ReadLink)
+    → ((l : Link) → link l ≡ x → (e : RuntimeFunction) → on e (l .place .links + 1) ≡ go e (l .place .links + 1))
+    → chainBy on x ≡ chainBy go x
+same-by on go (link l) h = same-follows on go l (l .info .follows) (h l refl)
+same-by on go (refusedLink k) h = refl
 
 module _ (s : List ℕ) (sections : Sections) where
-  abbrev pub onAddress : ℕ → ℕ → Reaches
-  onAddress zero a = refusedReaches (refuseOf links)
-  onAddress (suc left) a = onRecord (recordAtOf s sections a) refusedReaches (λ e. oneMore (reachesFrom left s sections e))
+  -- after 32 links there is no info
+  pub over : (infos : ℕ) (r : RuntimeFunction) (n : ℕ) → length s ≤ fileLimit → linkLimit < n
+      → refusedChain (refuseOf links) ≡ chainFrom infos s sections r n
+  unfolding chainFrom
+  over zero r n l h = refl
+  over (suc infos) r n l h =
+      ap (chainBy (λ e m. chainFrom infos s sections e m)) (link-over s sections r n l h refl)
 
-  abbrev pub onLink : ℕ → RuntimeFunction → Reaches
-  onLink zero e = refusedReaches (refuseOf links)
-  onLink (suc left) e = oneMore (reachesFrom left s sections e)
+  -- more infos than can come make no difference
+  enough : length s ≤ fileLimit → (a b : ℕ) (r : RuntimeFunction) (n : ℕ) → infoLimit ≤ a + n → infoLimit ≤ b + n
+      → chainFrom a s sections r n ≡ chainFrom b s sections r n
+  enough l zero b r n h g = sym (over zero r n l (omega arith)) ∙ over b r n l (omega arith)
+  enough l (suc a) zero r n h g = sym (over (suc a) r n l (omega arith)) ∙ over zero r n l (omega arith)
+  enough l (suc a) (suc b) r n h g =
+      chain-suc s sections a r n
+      ∙ same-by (λ e m. chainFrom a s sections e m) (λ e m. chainFrom b s sections e m) (linkAt s sections r n)
+      (λ x d e.
+      let w = link-within s sections r n d .1 in
+      enough l a b e (x .place .links + 1) (omega (arith, w .least)) (omega (arith, w .least)))
+      ∙ sym (chain-suc s sections b r n)
 
-  pub walk-is : (left : ℕ) (r : RuntimeFunction) → reachesFrom left s sections r ≡ reachesBy (leadOf s sections r) (onAddress left) (onLink left)
-  unfolding reachesFrom
-  walk-is zero r = refl
-  walk-is (suc left) r = refl
+  -- the equation of the definition, with the same bound on both sides
+  pub chain-is : (infos : ℕ) (r : RuntimeFunction) (n : ℕ) → infoLimit ≤ suc infos + n
+      → chainFrom (suc infos) s sections r n ≡ chainBy (λ e m. chainFrom (suc infos) s sections e m) (linkAt s sections r n)
+  chain-is infos r n h =
+      chain-suc s sections infos r n
+      ∙ same-by (λ e m. chainFrom infos s sections e m) (λ e m. chainFrom (suc infos) s sections e m) (linkAt s sections r n)
+      (λ x d e.
+      let w = link-within s sections r n d in
+      let y = w .1 in
+      enough (w .0) infos (suc infos) e (x .place .links + 1) (omega (arith, y .least)) (omega (arith, y .least)))
 
-  address-on : (left a : ℕ) → (left ≡ 0 → ⊥) → onAddress left a ≡ onRecord (recordAtOf s sections a) refusedReaches (λ e. oneMore (reachesFrom (left - 1) s sections e))
-  address-on zero a p = absurd (p refl)
-  address-on (suc left) a p = let n : suc left - 1 ≡ left = omega arith in rw n
+-- the chain from a record on, to which `n` links have led: no bound is ever reached
+abbrev pub chainAt : List ℕ → Sections → RuntimeFunction → ℕ → ReadChain
+chainAt s sections r n = chainFrom infoLimit s sections r n
 
-  link-on : (left : ℕ) (e : RuntimeFunction) → (left ≡ 0 → ⊥) → onLink left e ≡ oneMore (reachesFrom (left - 1) s sections e)
-  link-on zero e p = absurd (p refl)
-  link-on (suc left) e p = let n : suc left - 1 ≡ left = omega arith in rw n
+pub chain-at : (s : List ℕ) (sections : Sections) (r : RuntimeFunction) (n : ℕ)
+    → chainAt s sections r n ≡ chainBy (λ e m. chainAt s sections e m) (linkAt s sections r n)
+chain-at s sections r n = chain-is s sections linkLimit r n (omega arith)
 
-  module _ (left n c : ℕ) (r : RuntimeFunction) {t : Turn} (e : t ≡ turnOf (leadOf s sections r)) where
-    from : Lead → CountAllCodes
-    from st = totalsFrom n c (reachesBy st (onAddress left) (onLink left))
+-- The totals, `c` codes passed before.
+abbrev pub totalsFrom : ℕ → ReadChain → CountAllCodes
+totalsFrom c (chain x) =
+    count.Value (record { links = lastLinks (x .found) (x .outer); codes = c + codesOfAll (x .found ∷ x .outer) })
+totalsFrom c (refusedChain k) = count.Refused k
 
-    at-step : {st : Lead} → leadOf s sections r ≡ st → from st ≡ totalsFrom n c (reachesFrom left s sections r)
-    unfolding from
-    at-step d = rw (walk-is left r, d)
+totals-are : {a b c d : ℕ} → a ≡ b → c ≡ d → count.Value (record { links = a; codes = c }) ≡ count.Value (record { links = b; codes = d })
+totals-are e f = rw (e, f)
 
-    pub walk-refused : {k : Refusal} → t ≡ turn.Refused k → Refused k ≡ totalsFrom n c (reachesFrom left s sections r)
-    unfolding from
-    walk-refused f = at-step (told-refused (leadOf s sections r) (sym f ∙ e))
+pub totals-start : (x : ReadChain) → totalsOf x ≡ totalsFrom 0 x
+totals-start (chain x) = totals-are refl (omega arith)
+totals-start (refusedChain k) = refl
 
-    pub walk-last : {m : ℕ} → t ≡ turn.Last m → Value (record { links = n; codes = c + m }) ≡ totalsFrom n c (reachesFrom left s sections r)
-    unfolding from
-    walk-last f =
-        let p = end s sections r e f in
-        totals-are (omega arith) (omega (arith, p .many)) ∙ at-step (p .is)
+totals-before : (c : ℕ) (l : Link) (x : ReadChain)
+    → totalsFrom c (onChain x refusedChain (λ y. chain (before l y))) ≡ totalsFrom (c + length (l .codes)) x
+totals-before c l (chain x) = totals-are refl (omega arith)
+totals-before c l (refusedChain k) = refl
 
-    pub walk-over-odd : {a : ℕ} {q : Refusal} → t ≡ turn.Odd a → left ≡ 0 → q ≡ refuseOf links → Refused q ≡ totalsFrom n c (reachesFrom left s sections r)
-    unfolding from
-    walk-over-odd {a} f z d = ap Refused d ∙ ap (λ (k : ℕ). totalsFrom n c (onAddress k a)) (sym z) ∙ at-step (told-odd (leadOf s sections r) (sym f ∙ e))
+-- what the totals tell: there is a chain, or its refusal
+pub record HasChain (x : ReadChain) (t : Totals) : Type 0 where
+  pub its : Chain
+  pub is : chain its ≡ x
+  pub links : t .links ≡ lastLinks (its .found) (its .outer)
+  pub codes : t .codes ≡ codesOfAll (its .found ∷ its .outer)
 
-    pub walk-over-chained : {x : RuntimeFunction} {m : ℕ} {q : Refusal} → t ≡ turn.Chained x m → left ≡ 0 → q ≡ refuseOf links → Refused q ≡ totalsFrom n c (reachesFrom left s sections r)
-    unfolding from
-    walk-over-chained {x} f z d =
-        let p = chain s sections r e f in
-        ap Refused d ∙ ap (λ (k : ℕ). totalsFrom n c (before (p .link) (onLink k x))) (sym z) ∙ at-step (p .is)
+same-totals : {t u : Totals} → count.Value t ≡ count.Value u → t ≡ u
+same-totals e = cc
 
-    pub walk-odd-refused : {a : ℕ} → t ≡ turn.Odd a → (left ≡ 0 → ⊥) → {q : ReadRuntimeFunction} → q ≡ recordAtOf s sections a → {k : Refusal} → q ≡ found.Refused k → Refused k ≡ totalsFrom n c (reachesFrom left s sections r)
-    unfolding from
-    walk-odd-refused {a} f p d {k} g =
-        let z : refusedReaches k ≡ onAddress left a = rw (address-on left a p, ← d, g) in
-        ap (totalsFrom n c) z ∙ at-step (told-odd (leadOf s sections r) (sym f ∙ e))
+same-refusal : {k j : Refusal} → count.Refused k ≡ count.Refused j → k ≡ j
+same-refusal e = cc
 
-    pub walk-odd : {a : ℕ} → t ≡ turn.Odd a → (left ≡ 0 → ⊥) → {q : ReadRuntimeFunction} → q ≡ recordAtOf s sections a → {x : RuntimeFunction} → q ≡ found.Value x → {k : ℕ} → k ≡ n + 1 → totalsFrom n c (reachesFrom left s sections r) ≡ totalsFrom k c (reachesFrom (left - 1) s sections x)
-    unfolding from
-    walk-odd {a} f p d {x} g y =
-        let z : onAddress left a ≡ oneMore (reachesFrom (left - 1) s sections x) = rw (address-on left a p, ← d, g) in
-        sym (at-step (told-odd (leadOf s sections r) (sym f ∙ e))) ∙ ap (totalsFrom n c) z ∙ more n c (reachesFrom (left - 1) s sections x) ∙ ap (λ (j : ℕ). totalsFrom j c (reachesFrom (left - 1) s sections x)) (sym y)
+never-counted : {t : Totals} {k : Refusal} → count.Value t ≡ count.Refused k → ⊥
+never-counted e = let z : _≡_ {A = ℕ} 0 1 = cc in omega arith
 
-    pub walk-chained : {x : RuntimeFunction} {m : ℕ} → t ≡ turn.Chained x m → (left ≡ 0 → ⊥) → {k : ℕ} → k ≡ n + 1 → totalsFrom n c (reachesFrom left s sections r) ≡ totalsFrom k (c + m) (reachesFrom (left - 1) s sections x)
-    unfolding from
-    walk-chained {x} {m} f p y =
-        let q = chain s sections r e f in
-        sym (at-step (q .is))
-        ∙ ap (λ (w : Reaches). totalsFrom n c (before (q .link) w)) (link-on left x p)
-        ∙ more-before n c (q .link) (reachesFrom (left - 1) s sections x)
-        ∙ ap (λ (j : ℕ). totalsFrom (n + 1) (c + j) (reachesFrom (left - 1) s sections x)) (sym (q .many))
-        ∙ ap (λ (j : ℕ). totalsFrom j (c + m) (reachesFrom (left - 1) s sections x)) (sym y)
+pub counted-chain : (x : ReadChain) {t : Totals} → count.Value t ≡ totalsOf x → HasChain x t
+counted-chain (chain c) e =
+    let f = same-totals e in
+    record { its = c; is = refl; links = ap (λ (u : Totals). u .links) f; codes = ap (λ (u : Totals). u .codes) f }
+counted-chain (refusedChain k) e = absurd (never-counted e)
 
--- the whole walk
-module _ (s : List ℕ) (sections : Sections) (r : RuntimeFunction) where
-  pub walk-long : fileLimit < length s → refusedReaches (refuseOf limit) ≡ reachesOf s sections r
-  unfolding reachesOf
-  walk-long l = must-off refusedReaches _ _ _ (lt-leb _ _ l) refl
+pub counted-refused : (x : ReadChain) {k : Refusal} → count.Refused k ≡ totalsOf x → refusedChain k ≡ x
+counted-refused (chain c) e = absurd (never-counted (sym e))
+counted-refused (refusedChain j) e = ap refusedChain (same-refusal e)
 
-  pub walk-limited : length s ≤ fileLimit → reachesFrom linkLimit s sections r ≡ reachesOf s sections r
-  unfolding reachesOf
-  walk-limited l = must-on refusedReaches _ _ _ (le-leb _ _ l) refl
+-- what an info as the code has it tells
+pub record IsChained (s : List ℕ) (x : ReadLink) (e : RuntimeFunction) (n m : ℕ) : Type 0 where
+  pub its : Link
+  pub is : link its ≡ x
+  pub follows : its .info .follows ≡ Chained e
+  pub led : n ≡ its .place .links
+  pub many : m ≡ length (its .codes)
+
+pub record IsLast (s : List ℕ) (x : ReadLink) (n m : ℕ) : Type 0 where
+  pub its : Link
+  pub is : link its ≡ x
+  pub ends : (on : RuntimeFunction → ℕ → ReadChain) → chain (single its) ≡ chainBy on x
+  pub led : n ≡ its .place .links
+  pub many : m ≡ length (its .codes)
+
+chained-facts : {e d : RuntimeFunction} {a b c x : ℕ} → linked.Chained e a b ≡ linked.Chained d c x → (e ≡ d) × (a ≡ c) × (b ≡ x)
+chained-facts e = (cc, cc, cc)
+
+last-facts : {a b c x : ℕ} → linked.Last a b ≡ linked.Last c x → (a ≡ c) × (b ≡ x)
+last-facts e = (cc, cc)
+
+chained-by : (s : List ℕ) (l : Link) (f : Follows) → l .info .follows ≡ f → {e : RuntimeFunction} {n m : ℕ}
+    → linked.Chained e n m
+    ≡ onChained f (linked.Last (l .place .links) (length (l .codes))) (λ d. linked.Chained d (l .place .links) (length (l .codes)))
+    → IsChained s (link l) e n m
+chained-by s l Nothing d e = absurd (let z : _≡_ {A = ℕ} 0 1 = cc in omega arith)
+chained-by s l (Chained x) d e =
+    let f = chained-facts e in
+    record { its = l; is = refl; follows = d ∙ ap Chained (sym (f .0)); led = f .1; many = f .2 }
+chained-by s l (Handler y) d e = absurd (let z : _≡_ {A = ℕ} 0 1 = cc in omega arith)
+
+last-by : (s : List ℕ) (l : Link) (f : Follows) → l .info .follows ≡ f → {n m : ℕ}
+    → linked.Last n m
+    ≡ onChained f (linked.Last (l .place .links) (length (l .codes))) (λ d. linked.Chained d (l .place .links) (length (l .codes)))
+    → IsLast s (link l) n m
+last-by s l Nothing d e =
+    let f = last-facts e in
+    record { its = l; is = refl; ends = λ on. rw d; led = f .0; many = f .1 }
+last-by s l (Chained x) d e = absurd (let z : _≡_ {A = ℕ} 0 1 = cc in omega arith)
+last-by s l (Handler y) d e =
+    let f = last-facts e in
+    record { its = l; is = refl; ends = λ on. rw d; led = f .0; many = f .1 }
+
+is-chained : (s : List ℕ) (x : ReadLink) {e : RuntimeFunction} {n m : ℕ} → linked.Chained e n m ≡ linkedOf x → IsChained s x e n m
+is-chained s (link l) e = chained-by s l (l .info .follows) refl e
+is-chained s (refusedLink k) e = absurd (let z : _≡_ {A = ℕ} 0 1 = cc in omega arith)
+
+is-last : (s : List ℕ) (x : ReadLink) {n m : ℕ} → linked.Last n m ≡ linkedOf x → IsLast s x n m
+is-last s (link l) e = last-by s l (l .info .follows) refl e
+is-last s (refusedLink k) e = absurd (let z : _≡_ {A = ℕ} 0 1 = cc in omega arith)
+
+refused-by : (l : Link) (f : Follows) {k : Refusal}
+    → linked.Refused k
+    ≡ onChained f (linked.Last (l .place .links) (length (l .codes))) (λ d. linked.Chained d (l .place .links) (length (l .codes))) → ⊥
+refused-by l Nothing e = let z : _≡_ {A = ℕ} 0 1 = cc in omega arith
+refused-by l (Chained x) e = let z : _≡_ {A = ℕ} 0 1 = cc in omega arith
+refused-by l (Handler y) e = let z : _≡_ {A = ℕ} 0 1 = cc in omega arith
+
+is-refused : (x : ReadLink) {k : Refusal} → linked.Refused k ≡ linkedOf x → refusedLink k ≡ x
+is-refused (link l) e = absurd (refused-by l (l .info .follows) e)
+is-refused (refusedLink j) e = cc
+
+-- a turn of counting: an info was read to which `n` links had led, after `c` codes
+module _ (s : List ℕ) (sections : Sections) (r : RuntimeFunction) (n c : ℕ) {t : Linked} (e : t ≡ linkedOf (linkAt s sections r n)) where
+  pub count-refused : {k : Refusal} → t ≡ linked.Refused k → count.Refused k ≡ totalsFrom c (chainAt s sections r n)
+  count-refused f = rw (chain-at s sections r n, ← is-refused (linkAt s sections r n) (sym f ∙ e))
+
+  pub count-last : {m a : ℕ} → t ≡ linked.Last m a
+      → count.Value (record { links = m; codes = c + a }) ≡ totalsFrom c (chainAt s sections r n)
+  count-last f =
+      let p = is-last s (linkAt s sections r n) (sym f ∙ e) in
+      totals-are (p .led) (omega (arith, p .many))
+      ∙ ap (totalsFrom c) (p .ends (λ x m. chainAt s sections x m) ∙ sym (chain-at s sections r n))
+
+  module _ {x : RuntimeFunction} {m a : ℕ} (f : t ≡ linked.Chained x m a) where
+    facts : IsChained s (linkAt s sections r n) x m a
+    facts = is-chained s (linkAt s sections r n) (sym f ∙ e)
+
+    pub count-chained : totalsFrom c (chainAt s sections r n) ≡ totalsFrom (c + a) (chainAt s sections x (m + 1))
+    count-chained =
+        let p = facts in
+        let l = p .its in
+        rw (chain-at s sections r n, ← p .is, p .follows)
+        (totals-before c l (chainAt s sections x (l .place .links + 1))
+        ∙ ap (λ (k : ℕ). totalsFrom (c + k) (chainAt s sections x (l .place .links + 1))) (sym (p .many))
+        ∙ ap (λ (k : ℕ). totalsFrom (c + a) (chainAt s sections x (k + 1))) (sym (p .led)))
+
+    -- the links grow and stay below 33, and an info's codes are few
+    pub chained-bound : (n ≤ m) × (m ≤ linkLimit) × (a ≤ fileLimit)
+    chained-bound =
+        let p = facts in
+        let w = link-within s sections r n (p .is) in
+        let y = w .1 in
+        let b = whole-most s (p .its .place .offset) (p .its .info) (p .its .codes) (link-told s sections r n (p .is) .whole) in
+        (omega (arith, y .least, p .led), omega (arith, y .most, p .led), omega (arith, p .many, b .0, b .1))
+
+  pub last-bound : {m a : ℕ} → t ≡ linked.Last m a → a ≤ fileLimit
+  last-bound f =
+      let p = is-last s (linkAt s sections r n) (sym f ∙ e) in
+      let b = whole-most s (p .its .place .offset) (p .its .info) (p .its .codes) (link-told s sections r n (p .is) .whole) in
+      omega (arith, p .many, b .0, b .1)

@@ -1,5 +1,7 @@
--- `Theorems` is what a reader comes for; `Laws` has what proofs cite; `Visit` visits the infos again; `Cases` computes the definitions on small inputs.
+-- `Theorems` is what a reader comes for; `Walk` says what the cursor walks, `Laws` and `Next` have what proofs cite; `Cases` computes the
+-- definitions on small inputs.
 pub mod Laws
-pub mod Visit
+pub mod Next
+pub mod Walk
 pub mod Theorems
 mod Cases

@@ -1,131 +1,267 @@
--- What is proved of the walk over links, for every input. That a function answers its definition is its contract (src/lib.rt).
+-- What is proved of chains, for every input. That a function answers its definition is its contract (src/lib.rt); that the cursor walks the
+-- codes of a chain is `chain-walked` (Walk).
 -- Assumes nothing.
-use mathlib.Core.Path.{_≡_, refl, ap, _∙_}
-use mathlib.Core.List.{List, [], _∷_}
+use mathlib.Core.Path.{_≡_, refl, sym, ap, _∙_}
+use mathlib.Core.List.{List, [], _∷_, _++_}
 use mathlib.Core.Bool.{Bool, true, false}
-use Prim.Native.Nat.{ℕ, zero, suc, _+_, _-_, _%_, _≤_}
+use Prim.Native.Nat.{ℕ, zero, suc, _+_, _-_, _%_, _≤_, _<_}
 use native.Mathlib.Omega.{arith}
 use lib.ListN.{length}
-use borrow.Author.Tests.{leb-true}
-use Rattle.answer.specs.Answer.{refuseOf, limit, links}
-use Rattle.answer.specs.Test.{must, fileLimit}
+use Rattle.answer.specs.Answer.{values, refuseOf, links}
+use Rattle.answer.specs.Test.{fileLimit}
 use Rattle.answer.specs.declared.Refusal.{Refusal}
 use Rattle.answer.proofs.Unique.{same}
 use Rattle.runtime_function.specs.declared.RuntimeFunction.{RuntimeFunction}
-use Rattle.runtime_function.specs.declared.ReadRuntimeFunction.the-variants as found
-use Rattle.unwind_links.specs.Links.{linkLimit, recordAtOf, firstInfoOf}
-use Rattle.unwind_links.specs.declared.Sections.{Sections}
+use Rattle.runtime_function.specs.declared.ReadRuntimeFunction.the-variants as function
+use Rattle.pe_mapping.specs.Mapping.{findOffsetOf}
+use Rattle.pe_mapping.specs.declared.Sections.{Sections}
+use Rattle.pe_mapping.specs.declared.FindOffset.the-variants as mapped
+use Rattle.unwind_operation.specs.declared.UnwindCode.{UnwindCode}
+use Rattle.unwind_info.specs.declared.UnwindInfo.{UnwindInfo}
+use Rattle.unwind_info.specs.declared.Follows.{Follows}
+use Rattle.unwind_info.specs.declared.Follows.the-variants.{Nothing, Chained, Handler}
+use Rattle.unwind_codes.specs.Codes.{has, wholeInfoAt}
+use Rattle.unwind_links.specs.Links.{linkLimit, recordAtOf, placeOf, locateInfoOf, firstInfoOf, nextInfoOf}
+use Rattle.unwind_links.specs.declared.LocateInfo.the-variants as locate
 use Rattle.unwind_links.specs.declared.ReachedInfo.{ReachedInfo}
 use Rattle.unwind_links.specs.declared.ReachInfo.the-variants as reach
-use Rattle.unwind_links.proofs.Laws.{first-follow}
-use Rattle.unwind_chain.specs.Linked.{Link, odd, chained, last, leadOf, Reaches, reaches, refusedReaches, oneMore, before, reachesFrom, reachesOf, totalsOf, countAllCodesOf}
+use Rattle.unwind_links.specs.declared.NextInfo.the-variants as next
+use Rattle.unwind_links.proofs.Laws.{place-there, located-told, located-odd, next-nothing, next-handler, next-info}
+use Rattle.unwind_links.proofs.Theorems.{at-once as no-odds, thirty-two-pass as places-pass, thirty-three-refused as place-refused}
+use Rattle.unwind_array.specs.Arrays.{Frame, CodeArray, ChainCode, codesFrom, codesIn, outerCodes, joinedOf}
+use Rattle.unwind_chain.specs.Chain.{Link, linkAt, Chain, ReadChain, chain, refusedChain, onChain, single, before, chainFrom, infoLimit, chainOf, arrayOf, arraysOfLinks, arraysOf, lastLinks, codesOfAll, countAllCodesOf}
+use Rattle.unwind_chain.specs.Cursor.{startChainOf, nextChainCodeOf}
+use Rattle.unwind_chain.specs.Answers.{answerCountAllCodes, countCountAllCodes}
 use Rattle.unwind_chain.specs.declared.CountAllCodes.{CountAllCodes}
-use Rattle.unwind_chain.proofs.Laws.{step-odd, walk-is, walk-limited}
-use Rattle.unwind_chain.proofs.Visit.{Visits, visits-from, few-from}
+use Rattle.unwind_chain.specs.declared.CountAllCodes.the-variants as count
+use Rattle.unwind_chain.specs.declared.ChainCursor.{ChainCursor}
+use Rattle.unwind_chain.specs.declared.StartChain.{StartChain}
+use Rattle.unwind_chain.specs.declared.NextChainCode.{NextChainCode}
+use Rattle.unwind_chain.proofs.Laws.{Located, link-unlocated, located-link, chainBy, chain-is, over, chainAt, chain-at}
+use Rattle.unwind_chain.proofs.Walk.{NotChained, Chains, last-info, more-infos, chain-told, chain-of, head-of, reachedOf, reached-link}
+
+-- The bound of the definition cuts nothing off: with 33 infos left to the links that are, its equation holds with the same bound on both
+-- sides.
+pub chain-unbounded : (s : List ℕ) (sections : Sections) (infos : ℕ) (r : RuntimeFunction) (n : ℕ) → infoLimit ≤ suc infos + n
+    → chainFrom (suc infos) s sections r n ≡ chainBy (λ e m. chainFrom (suc infos) s sections e m) (linkAt s sections r n)
+chain-unbounded s sections infos r n h = chain-is s sections infos r n h
+
+few : {s : List ℕ} {sections : Sections} {r : RuntimeFunction} {n : ℕ} (l : Link) (ls : List Link) → Chains s sections r n l ls
+    → (l .place .links + length ls ≤ linkLimit) × (lastLinks l ls ≤ linkLimit)
+few {s} {sections} {r} {n} l [] (last-info p h) =
+    let w = located-told s sections r n (p .place) .1 in
+    (omega (arith, w .most), w .most)
+few {s} {sections} l (m ∷ ms) (more-infos {e = e} p f h) =
+    let w = located-told s sections e (l .place .links + 1) (head-of h .place) .1 in
+    let b = few m ms h in
+    (omega (arith, w .least, b .0), b .1)
+
+-- 12.6: A chain has at most 33 infos, and at most 32 links lead to its last.
+pub chain-few : (s : List ℕ) (sections : Sections) (r : RuntimeFunction) (c : Chain) → chain c ≡ chainOf s sections r
+    → (length (c .found ∷ c .outer) ≤ 33) × (lastLinks (c .found) (c .outer) ≤ 32)
+chain-few s sections r c e =
+    let b = few (c .found) (c .outer) (chain-told s sections infoLimit r 0 c e) in
+    (omega (arith, b .0), b .1)
+
+-- from an info of a chain, `next_info` goes through those after it
+pub data Visits (s : List ℕ) (sections : Sections) : Link → List Link → Type 0 where
+  visits-end : {l : Link} → next.End ≡ nextInfoOf s sections (reachedOf l) → Visits s sections l []
+  visits-on : {l m : Link} {ms : List Link} → next.Value (reachedOf m) ≡ nextInfoOf s sections (reachedOf l) → Visits s sections m ms →
+      Visits s sections l (m ∷ ms)
+
+no-next : (s : List ℕ) (sections : Sections) (at : ReachedInfo) → length s ≤ fileLimit → (f : Follows) → at .info .follows ≡ f
+    → NotChained f → next.End ≡ nextInfoOf s sections at
+no-next s sections at b Nothing e h = next-nothing s sections at b e
+no-next s sections at b (Chained r) e h = absurd h
+no-next s sections at b (Handler y) e h = next-handler s sections at b e
+
+visits : {s : List ℕ} {sections : Sections} {r : RuntimeFunction} {n : ℕ} (l : Link) (ls : List Link) → Chains s sections r n l ls
+    → Visits s sections l ls
+visits {s} {sections} {r} {n} l [] (last-info p h) =
+    visits-end (no-next s sections (reachedOf l) (located-told s sections r n (p .place) .0) (l .info .follows) refl h)
+visits {s} {sections} {r} {n} l (m ∷ ms) (more-infos {e = e} p f h) =
+    visits-on
+    (next-info s sections (reachedOf l) (located-told s sections r n (p .place) .0) f
+    (reached-link s sections e (l .place .links + 1) m (head-of h)) refl)
+    (visits m ms h)
+
+-- 12.6: The first info of a chain is the one that `first_info` reaches, and each other the one that `next_info` reaches from the one before
+-- it.
+pub chain-visited : (s : List ℕ) (sections : Sections) (r : RuntimeFunction) (c : Chain) → chain c ≡ chainOf s sections r
+    → (reach.Value (reachedOf (c .found)) ≡ firstInfoOf s sections r) × Visits s sections (c .found) (c .outer)
+chain-visited s sections r c e =
+    let h = chain-told s sections infoLimit r 0 c e in
+    (reached-link s sections r 0 (c .found) (head-of h), visits (c .found) (c .outer) h)
+
+-- a record names an info by its own, even address
+pub record Names (s : List ℕ) (sections : Sections) (r : RuntimeFunction) (o : ℕ) (i : UnwindInfo) (cs : List UnwindCode) : Type 0 where
+  pub even : r .unwind % 2 ≡ 1 → ⊥
+  pub place : mapped.Value o ≡ findOffsetOf s sections (r .unwind)
+  pub whole : has i cs ≡ wholeInfoAt s o
 
 -- `n` links lead from the record `r` to the record `e`: odd addresses and chained infos count alike
 pub data Leads (s : List ℕ) (sections : Sections) : ℕ → RuntimeFunction → RuntimeFunction → Type 0 where
-  here : {r : RuntimeFunction} → Leads s sections 0 r r
-  by-odd : {n a : ℕ} {r m e : RuntimeFunction} → odd a ≡ leadOf s sections r → found.Value m ≡ recordAtOf s sections a → Leads s sections n m e → Leads s sections (suc n) r e
-  by-chain : {n : ℕ} {l : Link} {r m e : RuntimeFunction} → chained l m ≡ leadOf s sections r → Leads s sections n m e → Leads s sections (suc n) r e
+  at-once : {r : RuntimeFunction} → Leads s sections 0 r r
+  by-odd : {n : ℕ} {r m e : RuntimeFunction} → r .unwind % 2 ≡ 1 → function.Value m ≡ recordAtOf s sections (r .unwind - 1) →
+      Leads s sections n m e → Leads s sections (suc n) r e
+  by-chain : {n o : ℕ} {i : UnwindInfo} {cs : List UnwindCode} {r m e : RuntimeFunction} → Names s sections r o i cs →
+      i .follows ≡ Chained m → Leads s sections n m e → Leads s sections (suc n) r e
 
--- a walk that comes to its end by `n` links
-pub record Ends (w : Reaches) (n : ℕ) : Type 0 where
-  pub infos : List Link
-  pub is : reaches n infos ≡ w
+-- the info that a record names, after `n` links
+abbrev pub named : RuntimeFunction → ℕ → UnwindInfo → List UnwindCode → ℕ → Link
+named r o i cs n = record { place = record { begin = r .begin; offset = o; links = n }; info = i; codes = cs }
 
-module _ (s : List ℕ) (sections : Sections) where
-  odd-walk : (left a : ℕ) (r m : RuntimeFunction) → odd a ≡ leadOf s sections r → found.Value m ≡ recordAtOf s sections a → oneMore (reachesFrom left s sections m) ≡ reachesFrom (suc left) s sections r
-  odd-walk left a r m e f = rw (walk-is s sections (suc left) r, ← e, ← f)
+abbrev pub lastOf : Link → List Link → Link
+lastOf l [] = l
+lastOf l (m ∷ ms) = lastOf m ms
 
-  chain-walk : (left : ℕ) (l : Link) (r m : RuntimeFunction) → chained l m ≡ leadOf s sections r → before l (oneMore (reachesFrom left s sections m)) ≡ reachesFrom (suc left) s sections r
-  chain-walk left l r m e = rw (walk-is s sections (suc left) r, ← e)
+-- a chain with that last info
+pub record EndsAt (x : ReadChain) (l : Link) : Type 0 where
+  pub its : Chain
+  pub is : chain its ≡ x
+  pub last : lastOf (its .found) (its .outer) ≡ l
 
-  last-walk : (left : ℕ) (l : Link) (r : RuntimeFunction) → last l ≡ leadOf s sections r → reaches 0 (l ∷ []) ≡ reachesFrom left s sections r
-  last-walk left l r e = rw (walk-is s sections left r, ← e)
+ends-with : {x y : ReadChain} {l : Link} → EndsAt x l → x ≡ y → EndsAt y l
+ends-with p e = record { its = p .its; is = p .is ∙ e; last = p .last }
 
-  refused-far : (n left : ℕ) {k : Refusal} {r e : RuntimeFunction} → Leads s sections n r e → refusedReaches k ≡ reachesFrom left s sections e → refusedReaches k ≡ reachesFrom (n + left) s sections r
-  refused-far zero left here h = let z : 0 + left ≡ left = omega arith in rw z h
-  refused-far (suc n) left {r = r} (by-odd {a = a} {m = m} d f c) h =
-      let z : suc n + left ≡ suc (n + left) = omega arith in
-      rw z (ap oneMore (refused-far n left c h) ∙ odd-walk (n + left) a r m d f)
-  refused-far (suc n) left {r = r} (by-chain {l = l} {m = m} d c) h =
-      let z : suc n + left ≡ suc (n + left) = omega arith in
-      rw z (ap (λ (w : Reaches). before l (oneMore w)) (refused-far n left c h) ∙ chain-walk (n + left) l r m d)
+ends-before : (m : Link) {x : ReadChain} {l : Link} → EndsAt x l → EndsAt (onChain x refusedChain (λ a. chain (before m a))) l
+ends-before m p =
+    record {
+      its = before m (p .its);
+      is = ap (λ (y : ReadChain). onChain y refusedChain (λ a. chain (before m a))) (p .is);
+      last = p .last;
+    }
 
-  ends-far : (n left m : ℕ) {r e : RuntimeFunction} → Leads s sections n r e → Ends (reachesFrom left s sections e) m → Ends (reachesFrom (n + left) s sections r) (n + m)
-  ends-far zero left m here h =
-      let z : 0 + left ≡ left = omega arith in
-      let y : 0 + m ≡ m = omega arith in
-      rw (z, y) h
-  ends-far (suc n) left m {r = r} (by-odd {a = a} {m = x} d f c) h =
-      let z : suc n + left ≡ suc (n + left) = omega arith in
-      let y : suc n + m ≡ suc (n + m) = omega arith in
-      let p = ends-far n left m c h in
-      rw (z, y) (record { infos = p .infos; is = ap oneMore (p .is) ∙ odd-walk (n + left) a r x d f })
-  ends-far (suc n) left m {r = r} (by-chain {l = l} {m = x} d c) h =
-      let z : suc n + left ≡ suc (n + left) = omega arith in
-      let y : suc n + m ≡ suc (n + m) = omega arith in
-      let p = ends-far n left m c h in
-      rw (z, y) (record { infos = l ∷ p .infos; is = ap (λ (w : Reaches). before l (oneMore w)) (p .is) ∙ chain-walk (n + left) l r x d })
+module _ (s : List ℕ) (sections : Sections) (b : length s ≤ fileLimit) where
+  named-there : (n : ℕ) → n ≤ 32 → {r : RuntimeFunction} {o : ℕ} {i : UnwindInfo} {cs : List UnwindCode} → Names s sections r o i cs
+      → Located s sections r n (named r o i cs n)
+  named-there n h {r} {o} {i} {cs} d =
+      let z : n + 0 ≡ n = omega arith in
+      let p : locate.Value (named r o i cs n .place) ≡ placeOf s sections r n = place-there s sections r n (d .place) refl in
+      let q : placeOf s sections r (n + 0) ≡ locateInfoOf s sections r n =
+      places-pass s sections n 0 r r b (omega arith) no-odds (d .even) in
+      record { place = p ∙ ap (placeOf s sections r) (sym z) ∙ q; whole = d .whole }
 
--- "32 links pass": where 32 links or fewer lead to a record whose info is not chained, the walk ends there.
-pub thirty-two-pass : (s : List ℕ) (sections : Sections) (n : ℕ) (r e : RuntimeFunction) (l : Link) → length s ≤ fileLimit → n ≤ 32 → Leads s sections n r e → last l ≡ leadOf s sections e → Ends (reachesOf s sections r) n
-thirty-two-pass s sections n r e l b h c d =
-    let z : n + (linkLimit - n) ≡ linkLimit = omega arith in
-    let y : n + 0 ≡ n = omega arith in
-    let p = rw (z, y) at (ends-far s sections n (linkLimit - n) 0 c (record { infos = l ∷ []; is = last-walk s sections (linkLimit - n) l e d })) in
-    record { infos = p .infos; is = p .is ∙ walk-limited s sections r b }
+  odd-link : (n : ℕ) → n < 32 → (r m : RuntimeFunction) → r .unwind % 2 ≡ 1 → function.Value m ≡ recordAtOf s sections (r .unwind - 1)
+      → linkAt s sections m (n + 1) ≡ linkAt s sections r n
+  unfolding linkAt
+  odd-link n h r m o e = rw (located-odd s sections r n b h o e)
 
-refused-at-last : (s : List ℕ) (sections : Sections) (r e : RuntimeFunction) → length s ≤ fileLimit → Leads s sections 32 r e → refusedReaches (refuseOf links) ≡ reachesFrom 0 s sections e → refusedReaches (refuseOf links) ≡ reachesOf s sections r
-refused-at-last s sections r e b c h = refused-far s sections 32 0 c h ∙ walk-limited s sections r b
+  odd-chain : (n : ℕ) → n < 32 → (r m : RuntimeFunction) → r .unwind % 2 ≡ 1 → function.Value m ≡ recordAtOf s sections (r .unwind - 1)
+      → chainAt s sections m (n + 1) ≡ chainAt s sections r n
+  odd-chain n h r m o e =
+      chain-at s sections m (n + 1)
+      ∙ ap (chainBy (λ x k. chainAt s sections x k)) (odd-link n h r m o e)
+      ∙ sym (chain-at s sections r n)
 
--- "33 is 8": a record behind 32 links with an odd address, whatever it refers to ..
-pub thirty-third-odd : (s : List ℕ) (sections : Sections) (r e : RuntimeFunction) (a : ℕ) → length s ≤ fileLimit → Leads s sections 32 r e → odd a ≡ leadOf s sections e → refusedReaches (refuseOf links) ≡ reachesOf s sections r
-thirty-third-odd s sections r e a b c d = refused-at-last s sections r e b c (rw (walk-is s sections 0 e, ← d))
+  chained-chain : (n : ℕ) → n ≤ 32 → {r m : RuntimeFunction} {o : ℕ} {i : UnwindInfo} {cs : List UnwindCode} → Names s sections r o i cs
+      → i .follows ≡ Chained m
+      → onChain (chainAt s sections m (n + 1)) refusedChain (λ c. chain (before (named r o i cs n) c)) ≡ chainAt s sections r n
+  chained-chain n h {r} {m} {o} {i} {cs} d f =
+      rw (chain-at s sections r n, ← located-link s sections r n (named-there n h d), f)
 
--- .. and one with a chained info.
-pub thirty-third-chained : (s : List ℕ) (sections : Sections) (r e m : RuntimeFunction) (l : Link) → length s ≤ fileLimit → Leads s sections 32 r e → chained l m ≡ leadOf s sections e → refusedReaches (refuseOf links) ≡ reachesOf s sections r
-thirty-third-chained s sections r e m l b c d = refused-at-last s sections r e b c (rw (walk-is s sections 0 e, ← d))
+  refused-far : (n j : ℕ) {k : Refusal} {r e : RuntimeFunction} → j + n ≤ 32 → Leads s sections n r e
+      → refusedChain k ≡ chainAt s sections e (j + n) → refusedChain k ≡ chainAt s sections r j
+  refused-far zero j y at-once h = let z : j + 0 ≡ j = omega arith in rw z at h
+  refused-far (suc n) j {r = r} y (by-odd {m = m} o g c) h =
+      let z : j + suc n ≡ j + 1 + n = omega arith in
+      refused-far n (j + 1) (omega arith) c (rw z at h) ∙ odd-chain j (omega arith) r m o g
+  refused-far (suc n) j {k} {r} y (by-chain {o = o} {i = i} {cs = cs} {m = m} d f c) h =
+      let z : j + suc n ≡ j + 1 + n = omega arith in
+      ap (λ (x : ReadChain). onChain x refusedChain (λ a. chain (before (named r o i cs j) a)))
+      (refused-far n (j + 1) (omega arith) c (rw z at h))
+      ∙ chained-chain j (omega arith) d f
 
-self-leads : (s : List ℕ) (sections : Sections) (n : ℕ) (r : RuntimeFunction) → r .unwind % 2 ≡ 1 → found.Value r ≡ recordAtOf s sections (r .unwind - 1) → Leads s sections n r r
-self-leads s sections zero r o e = here
-self-leads s sections (suc n) r o e = by-odd (step-odd s sections r o) e (self-leads s sections n r o e)
+  ends-far : (n j : ℕ) {l : Link} {r e : RuntimeFunction} → j + n ≤ 32 → Leads s sections n r e
+      → EndsAt (chainAt s sections e (j + n)) l → EndsAt (chainAt s sections r j) l
+  ends-far zero j y at-once h = let z : j + 0 ≡ j = omega arith in rw z at h
+  ends-far (suc n) j {r = r} y (by-odd {m = m} o g c) h =
+      let z : j + suc n ≡ j + 1 + n = omega arith in
+      ends-with (ends-far n (j + 1) (omega arith) c (rw z at h)) (odd-chain j (omega arith) r m o g)
+  ends-far (suc n) j {r = r} y (by-chain {o = o} {i = i} {cs = cs} {m = m} d f c) h =
+      let z : j + suc n ≡ j + 1 + n = omega arith in
+      ends-with (ends-before (named r o i cs j) (ends-far n (j + 1) (omega arith) c (rw z at h))) (chained-chain j (omega arith) d f)
 
--- "A runtime record that refers to itself" ends with 8.
-pub self-refused : (s : List ℕ) (sections : Sections) (r : RuntimeFunction) → length s ≤ fileLimit → r .unwind % 2 ≡ 1 → found.Value r ≡ recordAtOf s sections (r .unwind - 1) → refusedReaches (refuseOf links) ≡ reachesOf s sections r
-self-refused s sections r b o e =
-    thirty-third-odd s sections r r (r .unwind - 1) b (self-leads s sections 32 r o e) (step-odd s sections r o)
+  -- 12.4: Where 32 links or fewer lead to a record whose info is not chained, the chain ends with that info.
+  pub thirty-two-pass : (n : ℕ) (r e : RuntimeFunction) (o : ℕ) (i : UnwindInfo) (cs : List UnwindCode) → n ≤ 32 → Leads s sections n r e
+      → Names s sections e o i cs → NotChained (i .follows) → EndsAt (chainOf s sections r) (named e o i cs n)
+  thirty-two-pass n r e o i cs h c d f =
+      let z : 0 + n ≡ n = omega arith in
+      let q = chain-of s sections e n (named e o i cs n) [] (last-info (named-there n h d) f) in
+      ends-far n 0 (omega arith) c (rw z (record { its = single (named e o i cs n); is = q; last = refl }))
 
-limit-told : (test : Bool) (w : Reaches) {n : ℕ} {ls : List Link} → reaches n ls ≡ must refusedReaches test limit w → (test ≡ true) × (reaches n ls ≡ w)
-unfolding must
-limit-told true w e = (refl, e)
-limit-told false w e = absurd (let z : _≡_ {A = ℕ} 0 1 = cc in omega arith)
+  -- 12.4: After 32 links one more is 8: a record with an odd address, whatever it refers to ..
+  pub thirty-third-odd : (r e : RuntimeFunction) → Leads s sections 32 r e → e .unwind % 2 ≡ 1
+      → refusedChain (refuseOf links) ≡ chainOf s sections r
+  thirty-third-odd r e c x =
+      refused-far 32 0 (omega arith) c
+      (ap (chainBy (λ y k. chainAt s sections y k))
+      (link-unlocated s sections e 32 (place-refused s sections 32 0 e e b refl no-odds x) refl)
+      ∙ sym (chain-at s sections e 32))
 
-walk-told : (s : List ℕ) (sections : Sections) (r : RuntimeFunction) (n : ℕ) (ls : List Link) → reaches n ls ≡ reachesOf s sections r → (length s ≤ fileLimit) × (reaches n ls ≡ reachesFrom linkLimit s sections r)
-unfolding reachesOf
-walk-told s sections r n ls e = let p = limit-told _ _ e in (leb-true (length s) fileLimit (p .0), p .1)
+  -- .. and one whose info is chained.
+  pub thirty-third-chained : (r e m : RuntimeFunction) (o : ℕ) (i : UnwindInfo) (cs : List UnwindCode) → Leads s sections 32 r e
+      → Names s sections e o i cs → i .follows ≡ Chained m → refusedChain (refuseOf links) ≡ chainOf s sections r
+  thirty-third-chained r e m o i cs c d f =
+      refused-far 32 0 (omega arith) c
+      (ap (λ (x : ReadChain). onChain x refusedChain (λ a. chain (before (named e o i cs 32) a)))
+      (over s sections infoLimit m 33 b (omega arith))
+      ∙ chained-chain 32 (omega arith) d f)
 
--- A walk that ends has at most 32 links, and no more infos than those and one.
-pub walk-few : (s : List ℕ) (sections : Sections) (r : RuntimeFunction) (n : ℕ) (ls : List Link) → reaches n ls ≡ reachesOf s sections r → (n ≤ 32) × (length ls ≤ n + 1)
-walk-few s sections r n ls e =
-    let p = walk-told s sections r n ls e in
-    let f = few-from s sections linkLimit r n ls (p .1) in
-    (f .links, omega (arith, f .infos))
+  odd-self : (n : ℕ) (r : RuntimeFunction) → r .unwind % 2 ≡ 1 → function.Value r ≡ recordAtOf s sections (r .unwind - 1)
+      → Leads s sections n r r
+  odd-self zero r o e = at-once
+  odd-self (suc n) r o e = by-odd o e (odd-self n r o e)
 
--- an info, and the infos behind it
-pub record Visiting (s : List ℕ) (sections : Sections) (r : RuntimeFunction) (ls : List Link) : Type 0 where
-  pub at : ReachedInfo
-  pub first : reach.Value at ≡ firstInfoOf s sections r
-  pub all : Visits s sections at ls
+  chained-self : (n : ℕ) (r : RuntimeFunction) (o : ℕ) (i : UnwindInfo) (cs : List UnwindCode) → Names s sections r o i cs
+      → i .follows ≡ Chained r → Leads s sections n r r
+  chained-self zero r o i cs d f = at-once
+  chained-self (suc n) r o i cs d f = by-chain d f (chained-self n r o i cs d f)
 
--- The infos of a walk that ends are those that `first` reaches, and `next` after it: neither refuses on the way.
-pub walk-visited : (s : List ℕ) (sections : Sections) (r : RuntimeFunction) (n : ℕ) (ls : List Link) → reaches n ls ≡ reachesOf s sections r → Visiting s sections r ls
-walk-visited s sections r n ls e =
-    let p = walk-told s sections r n ls e in
-    let v = visits-from s sections (p .0) linkLimit (omega arith) r n ls (p .1) in
-    record { at = v .at; first = first-follow s sections r (p .0) (v .first); all = v .all }
+  -- 12.4: A record whose odd address refers to itself is 8 ..
+  pub self-refused : (r : RuntimeFunction) → r .unwind % 2 ≡ 1 → function.Value r ≡ recordAtOf s sections (r .unwind - 1)
+      → refusedChain (refuseOf links) ≡ chainOf s sections r
+  self-refused r o e = thirty-third-odd r r (odd-self 32 r o e) o
 
--- Two answers that meet the promise of this crate are equal.
-pub count-all-codes-unique : (s : List ℕ) (sections : Sections) (r : RuntimeFunction) {x y : CountAllCodes} → x ≡ countAllCodesOf s sections r → y ≡ countAllCodesOf s sections r → x ≡ y
+  -- .. and so is one whose info is chained to a record that names that info.
+  pub chained-self-refused : (q r : RuntimeFunction) (o : ℕ) (i : UnwindInfo) (cs : List UnwindCode) → Names s sections q o i cs
+      → Names s sections r o i cs → i .follows ≡ Chained r → refusedChain (refuseOf links) ≡ chainOf s sections q
+  chained-self-refused q r o i cs d e f = thirty-third-chained q r r o i cs (by-chain d f (chained-self 31 r o i cs e f)) e f
+
+many-from : (frame : Frame) (prolog : ℕ) (found first : Bool) (cs : List UnwindCode) (ds : List ChainCode)
+    → length (codesFrom frame prolog found first cs ++ ds) ≡ length cs + length ds
+many-from frame prolog found first [] ds = omega arith
+many-from frame prolog found first (c ∷ cs) ds = let e = many-from frame prolog found false cs ds in omega (arith, e)
+
+many-joined : (found : Bool) (a : CodeArray) (ds : List ChainCode) → length (codesIn found a ++ ds) ≡ length (a .codes) + length ds
+many-joined found a ds = many-from (a .frame) (a .prolog) found true (a .codes) ds
+
+many-outer : (ls : List Link) → length (outerCodes (arraysOfLinks ls)) ≡ codesOfAll ls
+many-outer [] = refl
+many-outer (l ∷ ls) = many-joined false (arrayOf l) (outerCodes (arraysOfLinks ls)) ∙ ap (λ (n : ℕ). length (l .codes) + n) (many-outer ls)
+
+-- 12.10: The number of codes that is counted is that of the one list.
+pub count-joined : (c : Chain) → length (joinedOf (arraysOf c)) ≡ codesOfAll (c .found ∷ c .outer)
+unfolding joinedOf
+count-joined c =
+    many-joined true (arrayOf (c .found)) (outerCodes (arraysOfLinks (c .outer)))
+    ∙ ap (λ (n : ℕ). length (c .found .codes) + n) (many-outer (c .outer))
+
+-- Two answers that meet a promise of this crate are equal.
+pub count-all-codes-unique : (s : List ℕ) (sections : Sections) (r : RuntimeFunction) {x y : CountAllCodes}
+    → x ≡ countAllCodesOf s sections r
+    → y ≡ countAllCodesOf s sections r → x ≡ y
 count-all-codes-unique s sections r = same
+
+pub start-chain-unique : (s : List ℕ) (sections : Sections) (r : RuntimeFunction) {x y : StartChain} → x ≡ startChainOf s sections r
+    → y ≡ startChainOf s sections r → x ≡ y
+start-chain-unique s sections r = same
+
+pub next-chain-code-unique : (s : List ℕ) (sections : Sections) (k : ChainCursor) {x y : NextChainCode} → x ≡ nextChainCodeOf s sections k
+    → y ≡ nextChainCodeOf s sections k → x ≡ y
+next-chain-code-unique s sections k = same
+
+-- Each answer has as many numbers as it says, zeros where it is refused.
+pub count-all-codes-count : (a : CountAllCodes) → length (values countCountAllCodes (answerCountAllCodes a)) ≡ countCountAllCodes
+count-all-codes-count (count.Value t) = refl
+count-all-codes-count (count.Refused k) = refl

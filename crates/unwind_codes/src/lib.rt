@@ -2,7 +2,9 @@
 ghost use mathlib.Core.Path.{_≡_};
 ghost use Prim.Native.Nat.{_+_, _*_, _≤_};
 ghost use lib.ListN.{length};
-ghost use Rattle.unwind_codes.specs.Codes.{codesAt, countOf, nthOf, codesOf, checkInfoOf, readCodeOf};
+ghost use Rattle.unwind_codes.specs.Codes.{codesAt, nthOf, codesOf, checkInfoOf, readCodeOf};
+ghost use Rattle.unwind_codes.specs.Code.{countIn, nthIn};
+use answer::Reason;
 use answer::Refusal;
 use unwind_info::ReadFollows;
 use unwind_info::ReadHeader;
@@ -45,9 +47,7 @@ pub fn check_info(file: &[u8], at: usize) -> CheckInfo
     ensures { λ r. ⌜ r ≡ checkInfoOf (now (file .entry)) at ⌝ }
 {
     if answer::FILE_LIMIT < file.len() {
-        return CheckInfo::Refused(Refusal {
-            number: answer::LIMIT,
-        });
+        return CheckInfo::Refused(answer::refuse(Reason::Limit));
     }
     match unwind_info::read_header(file, at) {
         ReadHeader::Value(h) => match count(file, h) {
@@ -57,7 +57,7 @@ pub fn check_info(file: &[u8], at: usize) -> CheckInfo
                 h.flags,
             ) {
                 ReadFollows::Value(follows) => CheckInfo::Value(CheckedInfo {
-                    info: h.followed_by(follows),
+                    info: UnwindInfo { header: h, follows },
                     codes,
                 }),
                 ReadFollows::Refused(k) => CheckInfo::Refused(k),
@@ -68,14 +68,12 @@ pub fn check_info(file: &[u8], at: usize) -> CheckInfo
     }
 }
 
-// The operation at an index of the unwind info at an offset of the file. Those behind it are not decoded.
+// The operation at an index of the unwind info at an offset of the file. Those after it are not decoded.
 pub fn read_code(file: &[u8], at: usize, index: usize) -> ReadCode
     ensures { λ r. ⌜ r ≡ readCodeOf (now (file .entry)) at index ⌝ }
 {
     if answer::FILE_LIMIT < file.len() {
-        return ReadCode::Refused(Refusal {
-            number: answer::LIMIT,
-        });
+        return ReadCode::Refused(answer::refuse(Reason::Limit));
     }
     match unwind_info::read_header(file, at) {
         ReadHeader::Value(h) => match nth(file, h, index) {
@@ -84,9 +82,7 @@ pub fn read_code(file: &[u8], at: usize, index: usize) -> ReadCode
                 ReadFollows::Refused(k) => ReadCode::Refused(k),
             },
             NthCode::Past => match unwind_info::read_follows(file, h.follows_at, h.flags) {
-                ReadFollows::Value(_) => ReadCode::Refused(Refusal {
-                    number: answer::NOT_FOUND,
-                }),
+                ReadFollows::Value(_) => ReadCode::Refused(answer::refuse(Reason::NotFound)),
                 ReadFollows::Refused(k) => ReadCode::Refused(k),
             },
             NthCode::Refused(k) => ReadCode::Refused(k),
@@ -97,7 +93,7 @@ pub fn read_code(file: &[u8], at: usize, index: usize) -> ReadCode
 
 fn count(file: &[u8], h: UnwindHeader) -> CountCodes
     requires { ⌜ h .«code_start» + 2 * h .«count_of_codes» ≤ length (now file) ⌝ }
-    ensures { λ r. ⌜ r ≡ countOf (codesOf (now (file .entry)) h) ⌝ }
+    ensures { λ r. ⌜ r ≡ countIn (codesOf (now (file .entry)) h) ⌝ }
 {
     let start = h.code_start;
     let end = start + unwind_operation::SLOT * (h.count_of_codes as usize);
@@ -106,7 +102,7 @@ fn count(file: &[u8], h: UnwindHeader) -> CountCodes
 
 fn nth(file: &[u8], h: UnwindHeader, index: usize) -> NthCode
     requires { ⌜ h .«code_start» + 2 * h .«count_of_codes» ≤ length (now file) ⌝ }
-    ensures { λ r. ⌜ r ≡ nthOf (codesOf (now (file .entry)) h) index ⌝ }
+    ensures { λ r. ⌜ nthIn r ≡ nthOf (codesOf (now (file .entry)) h) index ⌝ }
 {
     let start = h.code_start;
     let end = start + unwind_operation::SLOT * (h.count_of_codes as usize);
@@ -114,7 +110,7 @@ fn nth(file: &[u8], h: UnwindHeader, index: usize) -> NthCode
 }
 
 fn count_in(slots: &[u8], version: u8, frame: Register) -> CountCodes
-    ensures { λ r. ⌜ r ≡ countOf (codesAt (now (slots .entry)) 0 version (frame .0)) ⌝ }
+    ensures { λ r. ⌜ r ≡ countIn (codesAt (now (slots .entry)) 0 version (frame .0)) ⌝ }
 {
     let mut place: usize = 0;
     let mut codes: usize = 0;
@@ -133,7 +129,7 @@ fn count_in(slots: &[u8], version: u8, frame: Register) -> CountCodes
 }
 
 fn nth_in(slots: &[u8], version: u8, frame: Register, index: usize) -> NthCode
-    ensures { λ r. ⌜ r ≡ nthOf (codesAt (now (slots .entry)) 0 version (frame .0)) index ⌝ }
+    ensures { λ r. ⌜ nthIn r ≡ nthOf (codesAt (now (slots .entry)) 0 version (frame .0)) index ⌝ }
 {
     let mut place: usize = 0;
     let mut left = index;

@@ -1,9 +1,9 @@
--- What each answer of this crate stands for. What follows the codes is 0 for nothing, 1 for a chained record, 2 and 3 for an exception
--- and a termination handler, then its data.
+-- What each answer of this crate stands for, how many numbers that is, and how a definition goes on from it.
 -- Assumes nothing.
-use mathlib.Core.List.{List, [], _∷_}
+use mathlib.Core.List.{List, [], _∷_, _++_}
 use Prim.Native.Nat.{ℕ}
 use Rattle.answer.specs.Answer.{Answer, accepted, refused}
+use Rattle.answer.specs.declared.Refusal.{Refusal}
 use Rattle.runtime_function.specs.RuntimeFunction.{numbersOf}
 use Rattle.unwind_info.specs.declared.UnwindHeader.{UnwindHeader}
 use Rattle.unwind_info.specs.declared.UnwindInfo.{UnwindInfo}
@@ -18,15 +18,19 @@ use Rattle.unwind_info.specs.declared.ReadFollows.the-variants as follow
 use Rattle.unwind_info.specs.declared.ReadInfo.{ReadInfo}
 use Rattle.unwind_info.specs.declared.ReadInfo.the-variants.{Value, Refused}
 
+-- 10.13: 2 for an exception handler, 3 for a termination handler
 abbrev pub kindNumber : HandlerKind → ℕ
 kindNumber Exception = 2
 kindNumber Termination = 3
 
+-- 10.13: 0 for nothing, 1 for a chained record, or the kind of a handler; then the three fields of the record, or the handler's address and
+-- the start and length of its data
 abbrev pub followsNumbers : Follows → List ℕ
-followsNumbers Nothing = 0 ∷ []
+followsNumbers Nothing = 0 ∷ 0 ∷ 0 ∷ 0 ∷ []
 followsNumbers (Chained e) = 1 ∷ numbersOf e
-followsNumbers (Handler kind address start length) = kindNumber kind ∷ address ∷ start ∷ length ∷ []
+followsNumbers (Handler h) = kindNumber (h .kind) ∷ h .address ∷ h .start ∷ h .length ∷ []
 
+-- 10.13: the header, with the place of its slots and of what follows them
 abbrev pub headerNumbers : UnwindHeader → List ℕ
 headerNumbers h =
     h .version
@@ -40,24 +44,37 @@ headerNumbers h =
     ∷ []
 
 abbrev pub infoNumbers : UnwindInfo → List ℕ
-infoNumbers i =
-    i .version
-    ∷ i .flags
-    ∷ i .«size_of_prolog»
-    ∷ i .«count_of_codes»
-    ∷ i .«frame_register» .0
-    ∷ i .«frame_register_offset»
-    ∷ i .«code_start»
-    ∷ followsNumbers (i .follows)
+infoNumbers i = headerNumbers (i .header) ++ followsNumbers (i .follows)
 
 abbrev pub answerReadHeader : ReadHeader → Answer
 answerReadHeader (head.Value h) = accepted (headerNumbers h)
 answerReadHeader (head.Refused k) = refused k
 
+abbrev pub countReadHeader : ℕ
+countReadHeader = 8
+
+abbrev pub onReadHeader : {A : Type 0} → ReadHeader → (Refusal → A) → (UnwindHeader → A) → A
+onReadHeader (head.Value h) refusal on = on h
+onReadHeader (head.Refused k) refusal on = refusal k
+
 abbrev pub answerReadFollows : ReadFollows → Answer
 answerReadFollows (followed.Value f) = accepted (followsNumbers f)
 answerReadFollows (followed.Refused k) = refused k
 
+abbrev pub countReadFollows : ℕ
+countReadFollows = 4
+
+abbrev pub onReadFollows : {A : Type 0} → ReadFollows → (Refusal → A) → (Follows → A) → A
+onReadFollows (followed.Value f) refusal on = on f
+onReadFollows (followed.Refused k) refusal on = refusal k
+
 abbrev pub answerReadInfo : ReadInfo → Answer
 answerReadInfo (Value i) = accepted (infoNumbers i)
 answerReadInfo (Refused k) = refused k
+
+abbrev pub countReadInfo : ℕ
+countReadInfo = 12
+
+abbrev pub onReadInfo : {A : Type 0} → ReadInfo → (Refusal → A) → (UnwindInfo → A) → A
+onReadInfo (Value i) refusal on = on i
+onReadInfo (Refused k) refusal on = refusal k

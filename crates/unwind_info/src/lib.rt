@@ -1,6 +1,7 @@
 // Unwind info (`UNWIND_INFO`): its header, and what follows its codes. None of the codes is decoded here.
 ghost use mathlib.Core.Path.{_≡_};
-ghost use Rattle.unwind_info.specs.Unwind.{readHeaderOf, restAt, handlerAt, readFollowsOf, followedByOf, readInfoOf};
+ghost use Rattle.unwind_info.specs.Unwind.{readHeaderOf, restAt, handlerAt, readFollowsOf, readInfoOf};
+use answer::Reason;
 use answer::Refusal;
 use cursor::Cursor;
 use cursor::NextU8;
@@ -11,7 +12,7 @@ use unwind_operation::Register;
 
 pub struct UnwindHeader {
     pub version: u8,
-    // As they stand: bits without meaning are kept.
+    // As they are: bits without meaning are kept.
     pub flags: u8,
     pub size_of_prolog: u8,
     // In slots of two bytes.
@@ -21,7 +22,7 @@ pub struct UnwindHeader {
     pub frame_register_offset: u32,
     // Where the slots start in the file: `2 * count_of_codes` bytes of it are there.
     pub code_start: usize,
-    // Where what follows the codes stands, if something does: an unused slot is passed.
+    // Where what follows the codes is, if something does: after the unused slot of an odd count.
     pub follows_at: usize,
 }
 
@@ -30,27 +31,23 @@ pub enum HandlerKind {
     Termination,
 }
 
+pub struct UnwindHandler {
+    pub kind: HandlerKind,
+    pub address: u32,
+    // Its data: the part of the file that starts at `start` and has `length` bytes.
+    pub start: usize,
+    pub length: usize,
+}
+
 // What follows the codes.
 pub enum Follows {
     Nothing,
     Chained(RuntimeFunction),
-    // The handler's address, and its data: the part of the file that starts at `start` and has `length` bytes.
-    Handler {
-        kind: HandlerKind,
-        address: u32,
-        start: usize,
-        length: usize,
-    },
+    Handler(UnwindHandler),
 }
 
 pub struct UnwindInfo {
-    pub version: u8,
-    pub flags: u8,
-    pub size_of_prolog: u8,
-    pub count_of_codes: u8,
-    pub frame_register: Register,
-    pub frame_register_offset: u32,
-    pub code_start: usize,
+    pub header: UnwindHeader,
     pub follows: Follows,
 }
 
@@ -69,37 +66,16 @@ pub enum ReadInfo {
     Refused(Refusal),
 }
 
-impl UnwindHeader {
-    // The info with this header.
-    pub fn followed_by(self, follows: Follows) -> UnwindInfo
-        ensures { λ r. ⌜ r ≡ followedByOf self follows ⌝ }
-    {
-        let frame_register = self.frame_register;
-        UnwindInfo {
-            version: self.version,
-            flags: self.flags,
-            size_of_prolog: self.size_of_prolog,
-            count_of_codes: self.count_of_codes,
-            frame_register,
-            frame_register_offset: self.frame_register_offset,
-            code_start: self.code_start,
-            follows,
-        }
-    }
-}
-
 // The unwind info at an offset of the file.
 pub fn read_info(file: &[u8], at: usize) -> ReadInfo
     ensures { λ r. ⌜ r ≡ readInfoOf (now (file .entry)) at ⌝ }
 {
     if answer::FILE_LIMIT < file.len() {
-        return ReadInfo::Refused(Refusal {
-            number: answer::LIMIT,
-        });
+        return ReadInfo::Refused(answer::refuse(Reason::Limit));
     }
     match read_header(file, at) {
-        ReadHeader::Value(h) => match read_follows(file, h.follows_at, h.flags) {
-            ReadFollows::Value(follows) => ReadInfo::Value(h.followed_by(follows)),
+        ReadHeader::Value(header) => match read_follows(file, header.follows_at, header.flags) {
+            ReadFollows::Value(follows) => ReadInfo::Value(UnwindInfo { header, follows }),
             ReadFollows::Refused(k) => ReadInfo::Refused(k),
         },
         ReadHeader::Refused(k) => ReadInfo::Refused(k),
@@ -115,9 +91,7 @@ pub fn read_header(s: &[u8], at: usize) -> ReadHeader
             if unwind_operation::known_version(first.value % 8) {
                 return rest(s, first.next, first.value);
             }
-            ReadHeader::Refused(Refusal {
-                number: answer::VERSION,
-            })
+            ReadHeader::Refused(answer::refuse(Reason::Version))
         }
         NextU8::Refused(k) => ReadHeader::Refused(k),
     }
@@ -151,9 +125,7 @@ fn rest(s: &[u8], next: Cursor, first: u8) -> ReadHeader
             follows_at: frame.next.at + 2 * (slots + slots % 2),
         });
     }
-    ReadHeader::Refused(Refusal {
-        number: answer::SHORT,
-    })
+    ReadHeader::Refused(answer::cut(frame.next.at, 2 * slots))
 }
 
 // What follows the codes of an info with these flags: it starts at `at`.
@@ -179,12 +151,12 @@ fn handler(s: &[u8], at: usize, kind: HandlerKind) -> ReadFollows
     ensures { λ r. ⌜ r ≡ handlerAt (now (s .entry)) at kind ⌝ }
 {
     match Cursor::new(at).next_u32(s, false) {
-        NextU32::Value(address) => ReadFollows::Value(Follows::Handler {
+        NextU32::Value(address) => ReadFollows::Value(Follows::Handler(UnwindHandler {
             kind,
             address: address.value,
             start: address.next.at,
             length: s.len() - address.next.at,
-        }),
+        })),
         NextU32::Refused(k) => ReadFollows::Refused(k),
     }
 }

@@ -1,92 +1,89 @@
--- Document 01, "Exceptions" and "Limits": from a runtime record to its unwind info, and from an info to the one that it is chained to.
+-- From a runtime record to its unwind info, by odd addresses, and from an info to the one that it is chained to.
 -- Assumes nothing.
-use Prim.Native.Nat.{ℕ, zero, suc, _-_, _%_}
+use Prim.Native.Nat.{ℕ, zero, suc, _+_, _-_, _%_}
 use mathlib.Core.List.{List}
-use lib.Dec.{ltb, eqb}
+use mathlib.Core.Bool.{Bool}
+use lib.Dec.{leb, eqb}
 use Rattle.answer.specs.Answer.{refuseOf, links}
 use Rattle.answer.specs.Test.{pick, must, inLimit}
-use Rattle.answer.specs.declared.Refusal.{Refusal}
 use Rattle.runtime_function.specs.RuntimeFunction.{readOf}
+use Rattle.runtime_function.specs.Answers.{onReadRuntimeFunction}
 use Rattle.runtime_function.specs.declared.RuntimeFunction.{RuntimeFunction}
 use Rattle.runtime_function.specs.declared.ReadRuntimeFunction.{ReadRuntimeFunction}
-use Rattle.runtime_function.specs.declared.ReadRuntimeFunction.the-variants as found
+use Rattle.runtime_function.specs.declared.ReadRuntimeFunction.the-variants as function
 use Rattle.pe_mapping.specs.Mapping.{findOffsetOf}
-use Rattle.pe_mapping.specs.declared.FindOffset.{FindOffset}
-use Rattle.pe_mapping.specs.declared.FindOffset.the-variants as mapped
+use Rattle.pe_mapping.specs.Answers.{onFindOffset}
+use Rattle.pe_mapping.specs.declared.Sections.{Sections}
 use Rattle.unwind_info.specs.Unwind.{readInfoOf}
-use Rattle.unwind_info.specs.declared.UnwindInfo.{UnwindInfo}
+use Rattle.unwind_info.specs.Answers.{onReadInfo}
 use Rattle.unwind_info.specs.declared.Follows.{Follows}
 use Rattle.unwind_info.specs.declared.Follows.the-variants.{Nothing, Chained, Handler}
-use Rattle.unwind_info.specs.declared.ReadInfo.{ReadInfo}
-use Rattle.unwind_info.specs.declared.ReadInfo.the-variants as parsed
-use Rattle.unwind_links.specs.declared.Sections.{Sections}
+use Rattle.unwind_links.specs.Answers.{onLocateInfo}
 use Rattle.unwind_links.specs.declared.ReachedInfo.{ReachedInfo}
+use Rattle.unwind_links.specs.declared.LocateInfo.{LocateInfo}
+use Rattle.unwind_links.specs.declared.LocateInfo.the-variants as locate
 use Rattle.unwind_links.specs.declared.ReachInfo.{ReachInfo}
 use Rattle.unwind_links.specs.declared.ReachInfo.the-variants as reach
 use Rattle.unwind_links.specs.declared.NextInfo.{NextInfo}
 use Rattle.unwind_links.specs.declared.NextInfo.the-variants.{Value, End, Refused}
 
--- "Links followed from one runtime record: 32."
+-- 1.5: at most 32 links are followed from one runtime record
 abbrev pub linkLimit : ℕ
 linkLimit = 32
 
-abbrev pub onMapped : {A : Type 0} → FindOffset → (Refusal → A) → (ℕ → A) → A
-onMapped (mapped.Value o) refused on = on o
-onMapped (mapped.Refused k) refused on = refused k
-
-abbrev pub onRecord : {A : Type 0} → ReadRuntimeFunction → (Refusal → A) → (RuntimeFunction → A) → A
-onRecord (found.Value e) refused on = on e
-onRecord (found.Refused k) refused on = refused k
-
-abbrev pub onInfo : {A : Type 0} → ReadInfo → (Refusal → A) → (UnwindInfo → A) → A
-onInfo (parsed.Value i) refused on = on i
-onInfo (parsed.Refused k) refused on = refused k
-
--- the file offset of an address
-abbrev pub mappedBy : List ℕ → Sections → ℕ → FindOffset
-mappedBy s sections address = findOffsetOf s (sections .table) (sections .count) (sections .alignment) address
-
--- the runtime record at an address
+-- 12.7: the runtime record at an address
 unfoldable pub recordAtOf : List ℕ → Sections → ℕ → ReadRuntimeFunction
-recordAtOf s sections address = onMapped (mappedBy s sections address) found.Refused (λ o. readOf s o)
+recordAtOf s sections address = onFindOffset (findOffsetOf s sections address) function.Refused (λ o. readOf s o)
 
--- the info that a record names itself, with the number of links that led there
-unfoldable pub reachedAt : List ℕ → Sections → RuntimeFunction → ℕ → ReachInfo
-reachedAt s sections r n =
-    onMapped (mappedBy s sections (r .unwind)) reach.Refused (λ o.
-    onInfo (readInfoOf s o) reach.Refused (λ i. reach.Value (record { begin = r .begin; offset = o; links = n; info = i })))
+-- 12.1: where the info is that a record names itself; `n` links led there
+unfoldable pub placeOf : List ℕ → Sections → RuntimeFunction → ℕ → LocateInfo
+placeOf s sections r n =
+    onFindOffset (findOffsetOf s sections (r .unwind)) locate.Refused
+    (λ o. locate.Value (record { begin = r .begin; offset = o; links = n }))
 
--- an unwind address is odd or not
-abbrev pub onUnwind : {A : Type 0} → ℕ → (ℕ → A) → (ℕ → A) → A
-onUnwind address odd even = pick (eqb (address % 2) 1) odd even address
+-- 12.2: an odd unwind address leads to another record
+abbrev pub isOdd : RuntimeFunction → Bool
+isOdd r = eqb (r .unwind % 2) 1
 
--- "An odd unwind address refers to another runtime record at that address less 1: follow it, one link.", where `left` links may be
--- followed; "the 33rd is 8 before anything there is read"
-unfoldable pub followFrom : ℕ → List ℕ → Sections → RuntimeFunction → ReachInfo
-followFrom zero s sections r = onUnwind (r .unwind) (λ a. reach.Refused (refuseOf links)) (λ a. reachedAt s sections r linkLimit)
-followFrom (suc left) s sections r =
-    onUnwind (r .unwind)
-    (λ a. onRecord (recordAtOf s sections (a - 1)) reach.Refused (λ e. followFrom left s sections e))
-    (λ a. reachedAt s sections r (linkLimit - suc left))
+-- 12.2, 12.4: odd addresses are followed, where `left` links may be; one more is 8, before anything there is mapped or read
+unfoldable pub locateFrom : ℕ → List ℕ → Sections → RuntimeFunction → LocateInfo
+locateFrom zero s sections r = pick (isOdd r) (locate.Refused (refuseOf links)) (placeOf s sections r linkLimit)
+locateFrom (suc left) s sections r =
+    pick (isOdd r)
+    (onReadRuntimeFunction (recordAtOf s sections (r .unwind - 1)) locate.Refused (λ e. locateFrom left s sections e))
+    (placeOf s sections r (linkLimit - suc left))
 
--- the info of a runtime record
-unfoldable pub firstInfoOf : List ℕ → Sections → RuntimeFunction → ReachInfo
-firstInfoOf s sections r = inLimit reach.Refused s (followFrom linkLimit s sections r)
+-- 12.4, 12.11: where the info of a record is, to which `n` links have led already; more than 32 of them are 8
+unfoldable pub locateInfoOf : List ℕ → Sections → RuntimeFunction → ℕ → LocateInfo
+locateInfoOf s sections r n =
+    inLimit locate.Refused s
+    (must locate.Refused (leb n linkLimit) links (locateFrom (linkLimit - n) s sections r))
 
--- "(chained, one link)"
+-- 12.1: the info there
+unfoldable pub infoAt : List ℕ → LocateInfo → ReachInfo
+infoAt s l =
+    onLocateInfo l reach.Refused (λ p.
+    onReadInfo (readInfoOf s (p .offset)) reach.Refused (λ i. reach.Value (record { place = p; info = i })))
+
+-- 12.8: the info of a runtime record
+abbrev pub firstInfoOf : List ℕ → Sections → RuntimeFunction → ReachInfo
+firstInfoOf s sections r = infoAt s (locateInfoOf s sections r 0)
+
+-- 12.3: what an info is chained to
 abbrev pub onChained : {A : Type 0} → Follows → A → (RuntimeFunction → A) → A
 onChained Nothing end on = end
 onChained (Chained r) end on = on r
-onChained (Handler kind address start length) end on = end
+onChained (Handler h) end on = end
 
 abbrev pub nextBy : ReachInfo → NextInfo
 nextBy (reach.Value there) = Value there
 nextBy (reach.Refused k) = Refused k
 
--- the info that the one at `here` is chained to; its own link is one of the 32
+-- 12.3, 12.9, 12.11: the info of the record that an info is chained to; that is a link more than the `n` that led to the other
+abbrev pub chainedInfoOf : List ℕ → Sections → RuntimeFunction → ℕ → ReachInfo
+chainedInfoOf s sections r n = infoAt s (locateInfoOf s sections r (n + 1))
+
+-- 12.9: the info that another one is chained to
 unfoldable pub nextInfoOf : List ℕ → Sections → ReachedInfo → NextInfo
 nextInfoOf s sections here =
-    inLimit Refused s
-    (onChained (here .info .follows) End (λ r.
-    -- "8: more than 32 links"
-    must Refused (ltb (here .links) linkLimit) links (nextBy (followFrom (linkLimit - 1 - here .links) s sections r))))
+    inLimit Refused s (onChained (here .info .follows) End (λ r. nextBy (chainedInfoOf s sections r (here .place .links))))

@@ -9,7 +9,7 @@ stack-pointer : nameOf 4 ≡ 36 ∷ 114 ∷ 115 ∷ 112 ∷ 32 ∷ 32 ∷ []
 unfolding nameOf
 stack-pointer = refl
 
--- "XMM n is register 17 + n."
+-- XMM n is 17 + n
 first-xmm : nameOf 17 ≡ 36 ∷ 120 ∷ 109 ∷ 109 ∷ 48 ∷ 32 ∷ []
 unfolding nameOf
 first-xmm = refl

@@ -1,11 +1,11 @@
--- The names of the registers, by their numbers: those that pe/exception.rs prints.
+-- The names of the registers, by their numbers: those that goblin prints (pe/exception.rs).
 -- Assumes nothing.
 use Prim.Native.Nat.{ℕ}
 use Prim.Native.String.{String}
 use mathlib.Core.List.{List, [], _∷_}
 use Rattle.answer.specs.Words.{textAt, padded}
 
--- from 0 on; "XMM n is register 17 + n."
+-- 11.6: from 0 on
 abbrev pub names : List String
 names =
     "$rax" ∷ "$rcx" ∷ "$rdx" ∷ "$rbx" ∷ "$rsp" ∷ "$rbp" ∷ "$rsi" ∷ "$rdi"
@@ -15,6 +15,6 @@ names =
     ∷ "$xmm8" ∷ "$xmm9" ∷ "$xmm10" ∷ "$xmm11" ∷ "$xmm12" ∷ "$xmm13" ∷ "$xmm14" ∷ "$xmm15"
     ∷ []
 
--- the name in a row of six bytes; a number above the last has none
+-- 11.7: the name in a row of six bytes; a number above 32 has none
 unfoldable pub nameOf : ℕ → List ℕ
 nameOf n = padded 6 (textAt "" names n)

@@ -1,134 +1,138 @@
--- Microsoft, "x64 exception handling", struct UNWIND_CODE, and document 01's table of operations: "The unwind code array is used to
--- record the sequence of operations in the prolog that affect the nonvolatile registers and RSP." Here the slots of an unwind info
--- stand by themselves, two bytes each; their number is the info's count.
+-- The unwind operations in their slots (Microsoft, "x64 exception handling", struct UNWIND_CODE). The slots of an unwind info are lent
+-- here by themselves, two bytes each, so that their number is the count of the info.
 -- Assumes nothing.
-use Prim.Native.String.{String}
 use Prim.Native.Nat.{ℕ, _+_, _*_, _/_, _%_}
 use mathlib.Core.List.{List, [], _∷_}
 use mathlib.Core.Bool.{Bool, true, false}
-use lib.ListN.{length, getD}
+use lib.ListN.{length}
 use lib.Dec.{leb, eqb}
-use Rattle.answer.specs.Answer.{refuseOf, short, version, operation}
+use Rattle.answer.specs.Answer.{refuseOf, beyondOf, version, operation}
 use Rattle.answer.specs.Test.{pick, must}
 use Rattle.fields.specs.Number.{numberAt}
-use Rattle.layout.specs.Layout.{Field, field, widths, place, numbersAt}
+use Rattle.layout.specs.Layout.{Field, field, widths, the, numbersAt}
 use Rattle.unwind_operation.specs.declared.Register.{Register}
 use Rattle.unwind_operation.specs.declared.StackFrameOffset.{StackFrameOffset}
 use Rattle.unwind_operation.specs.declared.StackFrameOffset.the-variants.{RSP, FP}
 use Rattle.unwind_operation.specs.declared.UnwindOperation.{UnwindOperation}
 use Rattle.unwind_operation.specs.declared.UnwindOperation.the-variants.{PushNonVolatile, Alloc, SetFPRegister, SaveNonVolatile, SaveXMM, Epilog, SaveXMM128, PushMachineFrame, Noop}
-use Rattle.unwind_operation.specs.declared.Numbered.{Numbered}
-use Rattle.unwind_operation.specs.declared.Numbered.the-variants as kind
-use Rattle.unwind_operation.specs.declared.Slots.{Slots}
-use Rattle.unwind_operation.specs.declared.Slots.the-variants.{One, Two, Three, Unknown}
 use Rattle.unwind_operation.specs.declared.NextCode.{NextCode}
 use Rattle.unwind_operation.specs.declared.NextCode.the-variants.{Value, Refused}
 
--- "6: unwind version not 1 or 2"
+-- 10.1: there are versions 1 and 2
 abbrev pub knownVersionOf : ℕ → Bool
 knownVersionOf v = pick (eqb v 1) true (eqb v 2)
 
+-- 11.6: general registers have the numbers 0 to 15 ..
 abbrev pub general : ℕ → Register
 general n = record { 0 = n }
 
--- "XMM n is register 17 + n."
+-- 11.6: .. and XMM n is 17 + n
 abbrev pub xmm : ℕ → Register
 xmm n = record { 0 = 17 + n }
 
--- The table, by its column "Op": the slots that an operation takes, and what it is. `offset` is its code offset.
-unfoldable pub formOf : ℕ → ℕ → ℕ → ℕ → Slots
+-- an operation that waits for the number in the slots after its first
+pub data Pending : Type 0 where
+  allocates : Pending
+  saves : Register → Pending
+  savesLow : Register → Pending
+  savesXmm : Register → Pending
+  noEffect : Pending
+
+-- the slots that an operation takes: its own, one more with a number of 16 bits, two more with one of 32 bits; or there is none such
+pub data Form : Type 0 where
+  one : UnwindOperation → Form
+  two : Pending → Form
+  three : Pending → Form
+  unknown : Form
+
+-- 11.2, 11.3, 11.5: the table, by operation number, operation info and version `v`. `offset` is the code offset, which an epilog reports.
+unfoldable pub formOf : ℕ → ℕ → ℕ → ℕ → Form
 formOf v offset op info =
-    -- "0 | 1 | push register info"
-    pick (eqb op 0) (One (PushNonVolatile (general info)))
-    -- "1 | 2 or 3 | info 0: alloc next u16 times 8; info 1: alloc next u32; other: 7"
-    (pick (eqb op 1) (pick (eqb info 0) (Two kind.Alloc) (pick (eqb info 1) (Three kind.Alloc) Unknown))
-    -- "2 | 1 | alloc info times 8 plus 8"
-    (pick (eqb op 2) (One (Alloc (info * 8 + 8)))
-    -- "3 | 1 | set frame register"
-    (pick (eqb op 3) (One SetFPRegister)
-    -- "4, 5 | 2, 3 | save register at u16 times 8, at u32"
-    (pick (eqb op 4) (Two (kind.SaveNonVolatile (general info)))
-    (pick (eqb op 5) (Three (kind.SaveNonVolatile (general info)))
-    -- "6, 7 | see Rust | version 1: save low XMM half, scale as in exception.rs; version 2: op 6 is one-slot epilog, op 7 no effect."
-    (pick (eqb op 6) (pick (eqb v 1) (Two (kind.SaveXMM (xmm info))) (One (Epilog offset info)))
-    (pick (eqb op 7) (pick (eqb v 1) (Three (kind.SaveXMM (xmm info))) (Three kind.Noop))
-    -- "8, 9 | 2, 3 | save XMM at u16 times 16, at u32"
-    (pick (eqb op 8) (Two (kind.SaveXMM128 (xmm info)))
-    (pick (eqb op 9) (Three (kind.SaveXMM128 (xmm info)))
-    -- "10 | 1 | machine frame; info 1 has an error code; above 1 as in exception.rs", which is 7
-    (pick (eqb op 10) (pick (eqb info 0) (One (PushMachineFrame false)) (pick (eqb info 1) (One (PushMachineFrame true)) Unknown))
-    -- "11-15 | | 7"
-    Unknown))))))))))
+    pick (eqb op 0) (one (PushNonVolatile (general info)))
+    (pick (eqb op 1) (pick (eqb info 0) (two allocates) (pick (eqb info 1) (three allocates) unknown))
+    (pick (eqb op 2) (one (Alloc (info * 8 + 8)))
+    (pick (eqb op 3) (one SetFPRegister)
+    (pick (eqb op 4) (two (saves (general info)))
+    (pick (eqb op 5) (three (saves (general info)))
+    (pick (eqb op 6) (pick (eqb v 1) (two (savesLow (xmm info))) (one (Epilog offset info)))
+    (pick (eqb op 7) (pick (eqb v 1) (three (savesLow (xmm info))) (three noEffect))
+    (pick (eqb op 8) (two (savesXmm (xmm info)))
+    (pick (eqb op 9) (three (savesXmm (xmm info)))
+    (pick (eqb op 10) (pick (eqb info 0) (one (PushMachineFrame false)) (pick (eqb info 1) (one (PushMachineFrame true)) unknown))
+    unknown))))))))))
 
--- what a number of 16 bits is multiplied with, 16 for op 6 of version 1 as in exception.rs; a number of 32 bits stands as it is
-abbrev pub scaleOf : Numbered → ℕ
-scaleOf kind.Alloc = 8
-scaleOf (kind.SaveNonVolatile r) = 8
-scaleOf (kind.SaveXMM r) = 16
-scaleOf (kind.SaveXMM128 r) = 16
-scaleOf kind.Noop = 1
+-- 11.2: what a number of 16 bits is multiplied with; a number of 32 bits is taken as it is
+abbrev pub scaleOf : Pending → ℕ
+scaleOf allocates = 8
+scaleOf (saves r) = 8
+scaleOf (savesLow r) = 16
+scaleOf (savesXmm r) = 16
+scaleOf noEffect = 1
 
--- "base is RSP, or frame register less frame offset if that register is not 0"
+-- 11.8: the offset of a save counts from RSP where the frame register of the info is 0, else from the frame register
 abbrev pub savedAt : ℕ → ℕ → StackFrameOffset
 savedAt frame n = pick (eqb frame 0) (RSP n) (FP n)
 
--- the operation with its number
-abbrev pub operationOf : ℕ → Numbered → ℕ → UnwindOperation
-operationOf frame kind.Alloc n = Alloc n
-operationOf frame (kind.SaveNonVolatile r) n = SaveNonVolatile r (savedAt frame n)
-operationOf frame (kind.SaveXMM r) n = SaveXMM r (savedAt frame n)
-operationOf frame (kind.SaveXMM128 r) n = SaveXMM128 r (savedAt frame n)
-operationOf frame kind.Noop n = Noop
+-- 11.2, 11.8: the operation, once its number is known
+abbrev pub operationOf : ℕ → Pending → ℕ → UnwindOperation
+operationOf frame allocates n = Alloc n
+operationOf frame (saves r) n = SaveNonVolatile r (savedAt frame n)
+operationOf frame (savesLow r) n = SaveXMM r (savedAt frame n)
+operationOf frame (savesXmm r) n = SaveXMM128 r (savedAt frame n)
+operationOf frame noEffect n = Noop
 
--- "Slot: code offset, then operation (low 4) and info (high 4)."
+-- 4.18: offset, width, name
 abbrev pub fields : List Field
 fields = field 0 1 "Offset in prolog" ∷ field 1 1 "Unwind operation code and operation info" ∷ []
 
 abbrev pub unwindCode : List ℕ
 unwindCode = widths fields
 
--- a number of the slot at a place
-abbrev pub the : String → List ℕ → ℕ → ℕ
-the x s at = getD (numbersAt false unwindCode s (2 * at)) (place x fields) 0
+-- the numbers of the slot at a place
+abbrev pub slotAt : List ℕ → ℕ → List ℕ
+slotAt s at = numbersAt false unwindCode s (2 * at)
 
+-- 11.1: the code offset ..
 abbrev pub offsetAt : List ℕ → ℕ → ℕ
-offsetAt s at = the "Offset in prolog" s at
+offsetAt s at = the fields "Offset in prolog" (slotAt s at)
 
+-- 11.1: .. the operation number in the low half of the second byte ..
 abbrev pub opAt : List ℕ → ℕ → ℕ
-opAt s at = the "Unwind operation code and operation info" s at % 16
+opAt s at = the fields "Unwind operation code and operation info" (slotAt s at) % 16
 
+-- 11.1: .. and the operation info in its high half
 abbrev pub infoAt : List ℕ → ℕ → ℕ
-infoAt s at = the "Unwind operation code and operation info" s at / 16
+infoAt s at = the fields "Unwind operation code and operation info" (slotAt s at) / 16 % 16
 
--- how many slots there are
+-- 11.11: how many slots there are; an odd last byte is none
 abbrev pub slotCount : List ℕ → ℕ
 slotCount s = length s / 2
 
--- "An operation whose slots pass the count is 1.", and no more bytes would help
-abbrev pub fits : List ℕ → ℕ → ℕ → NextCode → NextCode
-fits s at n on = must Refused (leb (at + n) (slotCount s)) short on
+-- 11.10: `n` slots from `at` on are there, or the refusal is 1, and no longer file would have them
+unfoldable pub inSlots : List ℕ → ℕ → ℕ → NextCode → NextCode
+inSlots s at n on = pick (leb (at + n) (slotCount s)) on (Refused beyondOf)
 
--- the operation, and the place past its slots
+-- the operation, and the place after its slots
 abbrev pub taken : ℕ → UnwindOperation → ℕ → NextCode
 taken offset o next = Value (record { code = record { «code_offset» = offset; operation = o }; next = next })
 
--- in two slots: the second has a number
-unfoldable pub inTwo : List ℕ → ℕ → ℕ → Numbered → ℕ → NextCode
-inTwo s at offset k frame = fits s at 2 (taken offset (operationOf frame k (scaleOf k * numberAt false 2 s (2 * at + 2))) (at + 2))
+-- 11.4: in two slots, the second has the number
+unfoldable pub inTwo : List ℕ → ℕ → ℕ → Pending → ℕ → NextCode
+inTwo s at offset k frame = inSlots s at 2 (taken offset (operationOf frame k (scaleOf k * numberAt false 2 s (2 * at + 2))) (at + 2))
 
--- in three: the second and the third have one
-unfoldable pub inThree : List ℕ → ℕ → ℕ → Numbered → ℕ → NextCode
-inThree s at offset k frame = fits s at 3 (taken offset (operationOf frame k (numberAt false 4 s (2 * at + 2))) (at + 3))
+-- 11.4: in three slots, the second and the third have it
+unfoldable pub inThree : List ℕ → ℕ → ℕ → Pending → ℕ → NextCode
+inThree s at offset k frame = inSlots s at 3 (taken offset (operationOf frame k (numberAt false 4 s (2 * at + 2))) (at + 3))
 
-abbrev pub byForm : Slots → List ℕ → ℕ → ℕ → ℕ → NextCode
-byForm (One o) s at offset frame = taken offset o (at + 1)
-byForm (Two k) s at offset frame = inTwo s at offset k frame
-byForm (Three k) s at offset frame = inThree s at offset k frame
--- "7: unknown operation, or bad operation info"
-byForm Unknown s at offset frame = Refused (refuseOf operation)
+-- 11.3: an operation that there is not is refused with 7
+abbrev pub byForm : Form → List ℕ → ℕ → ℕ → ℕ → NextCode
+byForm (one o) s at offset frame = taken offset o (at + 1)
+byForm (two k) s at offset frame = inTwo s at offset k frame
+byForm (three k) s at offset frame = inThree s at offset k frame
+byForm unknown s at offset frame = Refused (refuseOf operation)
 
--- the operation at a place among the slots, by the version and the frame register of its info
+-- 11.11: the operation at a place among the slots, by the version and the frame register of its info
 unfoldable pub nextCodeOf : List ℕ → ℕ → ℕ → ℕ → NextCode
 nextCodeOf s at v frame =
     must Refused (knownVersionOf v) version
-    (fits s at 1 (byForm (formOf v (offsetAt s at) (opAt s at) (infoAt s at)) s at (offsetAt s at) frame))
+    (inSlots s at 1 (byForm (formOf v (offsetAt s at) (opAt s at) (infoAt s at)) s at (offsetAt s at) frame))

@@ -1,20 +1,20 @@
 // Unwind operations, decoded from the slots of an unwind info, which are lent as that part of the file by itself; and the x64 registers
-// that they speak of, by number and by name.
+// that they name.
 ghost use mathlib.Core.Path.{_≡_};
 ghost use Prim.Native.Nat.{_*_, _/_, _%_, _<_};
 ghost use lib.ListN.{length};
-ghost use Rattle.answer.specs.Answer.{refuseOf, short};
 ghost use Rattle.unwind_operation.specs.Operation.{knownVersionOf, formOf, scaleOf, operationOf, savedAt, inTwo, inThree, nextCodeOf};
+ghost use Rattle.unwind_operation.specs.Code.{pendingOf, formIn};
 ghost use Rattle.unwind_operation.specs.Names.{nameOf};
+use answer::Reason;
 use answer::Refusal;
 use fields::ReadU16;
 use fields::ReadU32;
 
-// Where a register is saved.
+// Where a register is saved, and what its offset counts from.
 pub enum StackFrameOffset {
-    // So far above RSP.
     RSP(u32),
-    // So far above the frame register less the frame offset.
+    // The frame register.
     FP(u32),
 }
 
@@ -43,7 +43,7 @@ pub struct UnwindCode {
 
 pub struct TakenCode {
     pub code: UnwindCode,
-    // The slot past it.
+    // The slot after it.
     pub next: usize,
 }
 
@@ -69,7 +69,7 @@ enum Slots {
     One(UnwindOperation),
     // The second has a number of 16 bits, scaled.
     Two(Numbered),
-    // The second and third have a number of 32 bits, as it stands.
+    // The second and third have a number of 32 bits, as it is.
     Three(Numbered),
     Unknown,
 }
@@ -80,7 +80,7 @@ pub fn next_code(slots: &[u8], place: usize, version: u8, frame: Register) -> Ne
 {
     if known_version(version) {
         if slots.len() / SLOT <= place {
-            return NextCode::Refused(past_the_count());
+            return NextCode::Refused(answer::beyond());
         }
         let offset = slots[SLOT * place];
         let byte = slots[SLOT * place + 1];
@@ -88,14 +88,10 @@ pub fn next_code(slots: &[u8], place: usize, version: u8, frame: Register) -> Ne
             Slots::One(operation) => taken(offset, operation, place + 1),
             Slots::Two(kind) => two_slots(slots, place, offset, kind, frame),
             Slots::Three(kind) => three_slots(slots, place, offset, kind, frame),
-            Slots::Unknown => NextCode::Refused(Refusal {
-                number: answer::OPERATION,
-            }),
+            Slots::Unknown => NextCode::Refused(answer::refuse(Reason::Operation)),
         };
     }
-    NextCode::Refused(Refusal {
-        number: answer::VERSION,
-    })
+    NextCode::Refused(answer::refuse(Reason::Version))
 }
 
 // Whether there are unwind infos of that version.
@@ -110,30 +106,21 @@ pub fn known_version(version: u8) -> bool
 
 fn two_slots(slots: &[u8], place: usize, offset: u8, kind: Numbered, frame: Register) -> NextCode
     requires { ⌜ place < length (now slots) / 2 ⌝ }
-    ensures { λ r. ⌜ r ≡ inTwo (now (slots .entry)) place offset kind (frame .0) ⌝ }
+    ensures { λ r. ⌜ r ≡ inTwo (now (slots .entry)) place offset (pendingOf kind) (frame .0) ⌝ }
 {
     match fields::read_u16(slots, SLOT * place + SLOT, false) {
         ReadU16::Value(n) => taken(offset, operation(kind, frame, scaled(kind, n)), place + 2),
-        ReadU16::Refused(_) => NextCode::Refused(past_the_count()),
+        ReadU16::Refused(_) => NextCode::Refused(answer::beyond()),
     }
 }
 
 fn three_slots(slots: &[u8], place: usize, offset: u8, kind: Numbered, frame: Register) -> NextCode
     requires { ⌜ place < length (now slots) / 2 ⌝ }
-    ensures { λ r. ⌜ r ≡ inThree (now (slots .entry)) place offset kind (frame .0) ⌝ }
+    ensures { λ r. ⌜ r ≡ inThree (now (slots .entry)) place offset (pendingOf kind) (frame .0) ⌝ }
 {
     match fields::read_u32(slots, SLOT * place + SLOT, false) {
         ReadU32::Value(n) => taken(offset, operation(kind, frame, n), place + 3),
-        ReadU32::Refused(_) => NextCode::Refused(past_the_count()),
-    }
-}
-
-// The slots pass the count, not the file: more bytes would not help.
-fn past_the_count() -> Refusal
-    ensures { λ r. ⌜ r ≡ refuseOf short ⌝ }
-{
-    Refusal {
-        number: answer::SHORT,
+        ReadU32::Refused(_) => NextCode::Refused(answer::beyond()),
     }
 }
 
@@ -151,7 +138,7 @@ fn taken(code_offset: u8, operation: UnwindOperation, next: usize) -> NextCode
 
 // The form of the operation whose slot is these two bytes.
 fn form_of(version: u8, offset: u8, byte: u8) -> Slots
-    ensures { λ r. ⌜ r ≡ formOf version offset (byte % 16) (byte / 16) ⌝ }
+    ensures { λ r. ⌜ formIn r ≡ formOf version offset (byte % 16) (byte / 16 % 16) ⌝ }
 {
     let info = byte / 16;
     match byte % 16 {
@@ -190,7 +177,7 @@ fn form_of(version: u8, offset: u8, byte: u8) -> Slots
 }
 
 fn scaled(kind: Numbered, n: u16) -> u32
-    ensures { λ r. ⌜ r ≡ scaleOf kind * n ⌝ }
+    ensures { λ r. ⌜ r ≡ scaleOf (pendingOf kind) * n ⌝ }
 {
     match kind {
         Numbered::Alloc => 8 * (n as u32),
@@ -202,7 +189,7 @@ fn scaled(kind: Numbered, n: u16) -> u32
 }
 
 fn operation(kind: Numbered, frame: Register, n: u32) -> UnwindOperation
-    ensures { λ r. ⌜ r ≡ operationOf (frame .0) kind n ⌝ }
+    ensures { λ r. ⌜ r ≡ operationOf (frame .0) (pendingOf kind) n ⌝ }
 {
     match kind {
         Numbered::Alloc => UnwindOperation::Alloc(n),

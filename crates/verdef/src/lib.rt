@@ -4,7 +4,7 @@ ghost use Rattle.verdef.specs.Verdef.{definitionsOf, definitionsOut, aux
 use version_record::VersionRecord;
 use version_section::CountEntries;
 
-// The numbers of a definition's row, and where each stands in it.
+// The numbers of a definition's row, and where each is in it.
 pub const NUMBERS: usize = 8;
 
 pub const PLACE: usize = 0;
@@ -41,7 +41,8 @@ pub fn definitions(
     big: bool,
     out: &mut [u32],
 ) -> CountEntries
-    ensures { λ r. ⌜ (r ≡ definitionsOf big (now (file .entry)) start len stated (now (out .entry))) × (now (out .exit) ≡ definitionsOut big (now (file .entry)) start len stated (now (out .entry))) ⌝ }
+    ensures { λ r. ⌜ (r ≡ definitionsOf big (now (file .entry)) start len stated (now (out .entry)))
+        × (now (out .exit) ≡ definitionsOut big (now (file .entry)) start len stated (now (out .entry))) ⌝ }
 {
     version_list::list(file, start, len, stated, 0, big, VersionRecord::Verdef, out)
 }
@@ -57,7 +58,8 @@ pub fn auxiliaries(
     big: bool,
     out: &mut [u32],
 ) -> CountEntries
-    ensures { λ r. ⌜ (r ≡ auxiliariesOf big (now (file .entry)) start len place aux cnt (now (out .entry))) × (now (out .exit) ≡ auxiliariesOut big (now (file .entry)) start len place aux cnt (now (out .entry))) ⌝ }
+    ensures { λ r. ⌜ (r ≡ auxiliariesOf big (now (file .entry)) start len place aux cnt (now (out .entry)))
+        × (now (out .exit) ≡ auxiliariesOut big (now (file .entry)) start len place aux cnt (now (out .entry))) ⌝ }
 {
     let at = (place as usize) + (aux as usize);
     version_list::list(

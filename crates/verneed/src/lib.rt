@@ -5,7 +5,7 @@ ghost use Rattle.verneed.specs.Verneed.{needsOf, needsOut, auxiliariesOf
 use version_record::VersionRecord;
 use version_section::CountEntries;
 
-// The numbers of a need's row, and where each stands in it.
+// The numbers of a need's row, and where each is in it.
 pub const NUMBERS: usize = 6;
 
 pub const PLACE: usize = 0;
@@ -44,7 +44,8 @@ pub fn needs(
     big: bool,
     out: &mut [u32],
 ) -> CountEntries
-    ensures { λ r. ⌜ (r ≡ needsOf big (now (file .entry)) start len stated (now (out .entry))) × (now (out .exit) ≡ needsOut big (now (file .entry)) start len stated (now (out .entry))) ⌝ }
+    ensures { λ r. ⌜ (r ≡ needsOf big (now (file .entry)) start len stated (now (out .entry)))
+        × (now (out .exit) ≡ needsOut big (now (file .entry)) start len stated (now (out .entry))) ⌝ }
 {
     version_list::list(
         file,
@@ -69,7 +70,8 @@ pub fn auxiliaries(
     big: bool,
     out: &mut [u32],
 ) -> CountEntries
-    ensures { λ r. ⌜ (r ≡ auxiliariesOf big (now (file .entry)) start len place aux cnt (now (out .entry))) × (now (out .exit) ≡ auxiliariesOut big (now (file .entry)) start len place aux cnt (now (out .entry))) ⌝ }
+    ensures { λ r. ⌜ (r ≡ auxiliariesOf big (now (file .entry)) start len place aux cnt (now (out .entry)))
+        × (now (out .exit) ≡ auxiliariesOut big (now (file .entry)) start len place aux cnt (now (out .entry))) ⌝ }
 {
     let at = (place as usize) + (aux as usize);
     version_list::list(

@@ -1,3 +1,3 @@
--- `Theorems` is what a reader comes for; `Laws` has what proofs cite. Cases stand with the doors, in `verdef` and `verneed`.
+-- `Theorems` is what a reader comes for; `Laws` has what proofs cite. Cases are with the doors, in `verdef` and `verneed`.
 pub mod Laws
 pub mod Theorems

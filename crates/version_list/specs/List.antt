@@ -1,4 +1,4 @@
--- Document 01, "Versions": the entries of a list of version records, and what a door on one answers and leaves.
+-- The entries of a list of version records, and what a door on one answers and leaves.
 -- Assumes nothing.
 use Prim.Native.Nat.{ℕ, zero, suc, _+_}
 use mathlib.Core.List.{List, [], _∷_, _++_}
@@ -18,11 +18,11 @@ use Rattle.version_record.specs.declared.VersionRecord.{VersionRecord}
 use Rattle.version_record.specs.declared.Onward.{Onward}
 use Rattle.version_record.specs.declared.Onward.the-variants.{Next, Last, Bad}
 
--- an entry: the record's place, counted from the section's start, then the numbers of its fields
+-- 14.16: the row of the record at `at`: its place, counted from the section's start, then the numbers of its fields
 abbrev pub rowAt : VersionRecord → Bool → List ℕ → ℕ → List ℕ
 rowAt k big s at = at ∷ numbersAt big (layout k) s at
 
--- what walking along a list finds: its entries, and whether it ended with them or stopped at bad bytes
+-- what following a list finds: its entries, and whether it ended with them or stopped at bad bytes
 pub record Entries : Type 0 where
   pub rows : List (List ℕ)
   pub whole : Bool
@@ -36,38 +36,37 @@ stopped = record { rows = []; whole = false }
 abbrev pub entry : List ℕ → Entries → Entries
 entry row w = record { rows = row ∷ w .rows; whole = w .whole }
 
--- by what stands at a place: an entry and what `on` finds from its next on; a last entry; or a stop
+-- 14.7, 14.9: by what is at a place: an entry and what `on` finds from its next on; a last entry; or a stop
 abbrev pub follow : Onward → List ℕ → (ℕ → Entries) → Entries
 follow (Next n) row on = entry row (on n)
 follow Last row on = entry row ended
 follow Bad row on = stopped
 
--- "a next of 0 ends the list, and so does the stated count": the list from `at` of a section's bytes, of at most `stated` entries
+-- 14.7, 14.8: the list from `at` of a section's bytes: a next of 0 ends it, and so does the stated count
 unfoldable pub entriesFrom : VersionRecord → Bool → List ℕ → ℕ → ℕ → Entries
 entriesFrom k big s zero at = ended
 entriesFrom k big s (suc stated) at = follow (onwardAtOf k big s at) (rowAt k big s at) (λ n. entriesFrom k big s stated (at + n))
 
--- rows one behind the other
+-- 14.17: rows one after the other
 abbrev pub flat : List (List ℕ) → List ℕ
 flat [] = []
 flat (r ∷ rs) = r ++ flat rs
 
--- "where the Rust just stops at bad bytes, we list the same entries and report 1 beside them and their number"; "If those entries
--- do not fit, the answer is 13"
+-- 14.15, 14.18: the number of the entries, with 1 where the list stopped at bad bytes; where the rows do not fit, 13 comes before that
 unfoldable pub countedOf : Entries → List ℕ → CountEntries
 countedOf w o =
     must Refused (leb (length (flat (w .rows))) (length o)) room (pick (w .whole) (Whole (length (w .rows))) (Cut (length (w .rows))))
 
--- "the rest of the caller's list stays as before"; "nothing is written" where they do not fit
+-- 14.17, 14.18: the rows from the front, the rest as it was; nothing is written where they do not fit
 unfoldable pub outOf : Entries → List ℕ → List ℕ
 outOf w o = stored o 0 (flat (w .rows))
 
--- "Version records per section: 65,535."
+-- 1.4: a list may state at most 65,535 records
 abbrev pub recordLimit : ℕ
-recordLimit = 65535
+recordLimit = 65_535
 
--- The checks of a door, in their order: the length of the file (3); the stated count (3), before the bytes that it counts are
--- looked at; the section (1). Then the list is walked.
+-- 14.2: the checks of a door, in their order: the length of the file (3); the stated count (3), before the bytes that it counts are
+-- looked at; the section (1). Then the list is followed.
 unfoldable pub opened : {A : Type 0} → (Refusal → A) → (Entries → A) → VersionRecord → Bool → List ℕ → ℕ → ℕ → ℕ → ℕ → A
 opened refused found k big file start len stated at =
     inLimit refused file
@@ -75,10 +74,10 @@ opened refused found k big file start len stated at =
     (inFile refused file start len
     (found (entriesFrom k big (sectionOf file start len) stated at))))
 
--- what a door answers
+-- 14.8 to 14.18, 14.21: what a door answers
 unfoldable pub listOf : VersionRecord → Bool → List ℕ → ℕ → ℕ → ℕ → ℕ → List ℕ → CountEntries
 listOf k big file start len stated at o = opened Refused (λ w. countedOf w o) k big file start len stated at
 
--- what the caller's list `o` is then
+-- 2.3, 14.17, 14.18, 14.21: what the caller's list `o` is then
 unfoldable pub listOut : VersionRecord → Bool → List ℕ → ℕ → ℕ → ℕ → ℕ → List ℕ → List ℕ
 listOut k big file start len stated at o = opened (λ refusal. o) (λ w. outOf w o) k big file start len stated at

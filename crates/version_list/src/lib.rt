@@ -1,5 +1,5 @@
 // A list of version records, each a row of numbers in a list that the caller lends: first the record's place in the section, then
-// its fields in the document's order. A list is walked twice: once to see how many records it has, and once to write them.
+// its fields in the document's order. A list is followed twice: once to see how many records it has, and once to write them.
 ghost use mathlib.Core.Path.{_≡_};
 ghost use Prim.Native.Nat.{_+_, _*_, _≤_, suc};
 ghost use lib.ListN.{length};
@@ -9,7 +9,7 @@ ghost use Rattle.layout.specs.Layout.{size};
 ghost use Rattle.version_record.specs.Record.{layout, onwardAtOf};
 ghost use Rattle.version_list.specs.List.{rowAt, entriesFrom, flat, countedOf, outOf, listOf, listOut};
 ghost use Rattle.version_list.specs.Place.{placeAfter};
-use answer::Refusal;
+use answer::Reason;
 use version_record::Onward;
 use version_record::VersionRecord;
 use version_section::CountEntries;
@@ -33,25 +33,20 @@ pub fn list(
     kind: VersionRecord,
     out: &mut [u32],
 ) -> CountEntries
-    ensures { λ r. ⌜ (r ≡ listOf kind big (now (file .entry)) start len stated at (now (out .entry))) × (now (out .exit) ≡ listOut kind big (now (file .entry)) start len stated at (now (out .entry))) ⌝ }
+    ensures { λ r. ⌜ (r ≡ listOf kind big (now (file .entry)) start len stated at (now (out .entry)))
+        × (now (out .exit) ≡ listOut kind big (now (file .entry)) start len stated at (now (out .entry))) ⌝ }
 {
     if answer::FILE_LIMIT < file.len() {
-        return CountEntries::Refused(Refusal {
-            number: answer::LIMIT,
-        });
+        return CountEntries::Refused(answer::refuse(Reason::Limit));
     }
     if RECORD_LIMIT < stated {
-        return CountEntries::Refused(Refusal {
-            number: answer::LIMIT,
-        });
+        return CountEntries::Refused(answer::refuse(Reason::Limit));
     }
     if fields::fits(file.len(), start, len) {
         let end = start + len;
         return list_in(&file[start..end], stated, at, big, kind, out);
     }
-    CountEntries::Refused(Refusal {
-        number: answer::SHORT,
-    })
+    CountEntries::Refused(answer::cut(start, len))
 }
 
 fn list_in(
@@ -63,15 +58,14 @@ fn list_in(
     out: &mut [u32],
 ) -> CountEntries
     requires { ⌜ (length (now section) ≤ fileLimit) × (stated ≤ 65535) ⌝ }
-    ensures { λ r. ⌜ (r ≡ countedOf (entriesFrom kind big (now (section .entry)) stated at) (now (out .entry))) × (now (out .exit) ≡ outOf (entriesFrom kind big (now (section .entry)) stated at) (now (out .entry))) ⌝ }
+    ensures { λ r. ⌜ (r ≡ countedOf (entriesFrom kind big (now (section .entry)) stated at) (now (out .entry)))
+        × (now (out .exit) ≡ outOf (entriesFrom kind big (now (section .entry)) stated at) (now (out .entry))) ⌝ }
 {
     let found = measure(section, stated, at, big, kind);
     let entries = found.entries;
     let columns = version_record::fields_of(kind) + 1;
     if out.len() < entries * columns {
-        return CountEntries::Refused(Refusal {
-            number: answer::ROOM,
-        });
+        return CountEntries::Refused(answer::refuse(Reason::Room));
     }
     fill(section, entries, at, big, kind, out);
     if found.whole {
@@ -83,7 +77,8 @@ fn list_in(
 // How many records there are, and whether the list ends with them or stops at bytes that are none.
 fn measure(section: &[u8], stated: usize, at: usize, big: bool, kind: VersionRecord) -> Extent
     requires { ⌜ length (now section) ≤ fileLimit ⌝ }
-    ensures { λ r. ⌜ (r .entries ≡ length (entriesFrom kind big (now (section .entry)) stated at .rows)) × (r .whole ≡ entriesFrom kind big (now (section .entry)) stated at .whole) ⌝ }
+    ensures { λ r. ⌜ (r .entries ≡ length (entriesFrom kind big (now (section .entry)) stated at .rows))
+        × (r .whole ≡ entriesFrom kind big (now (section .entry)) stated at .whole) ⌝ }
 {
     let mut left = stated;
     let mut entries: usize = 0;
@@ -117,7 +112,8 @@ fn measure(section: &[u8], stated: usize, at: usize, big: bool, kind: VersionRec
 
 // Writes the rows of a list that has as many records as it states.
 fn fill(section: &[u8], entries: usize, at: usize, big: bool, kind: VersionRecord, out: &mut [u32])
-    requires { ⌜ (length (now section) ≤ fileLimit) × (length (entriesFrom kind big (now section) entries at .rows) ≡ entries) × (entries * suc (length (layout kind)) ≤ length (now out)) ⌝ }
+    requires { ⌜ (length (now section) ≤ fileLimit) × (length (entriesFrom kind big (now section) entries at .rows) ≡ entries)
+        × (entries * suc (length (layout kind)) ≤ length (now out)) ⌝ }
     ensures { λ r. ⌜ now (out .exit) ≡ put (now (out .entry)) 0 (flat (entriesFrom kind big (now (section .entry)) entries at .rows)) ⌝ }
 {
     let columns = version_record::fields_of(kind) + 1;
@@ -133,7 +129,8 @@ fn fill(section: &[u8], entries: usize, at: usize, big: bool, kind: VersionRecor
 }
 
 fn put_row(section: &[u8], at: usize, big: bool, kind: VersionRecord, out: &mut [u32], base: usize)
-    requires { ⌜ (length (now section) ≤ fileLimit) × (at + size (layout kind) ≤ length (now section)) × (base + suc (length (layout kind)) ≤ length (now out)) ⌝ }
+    requires { ⌜ (length (now section) ≤ fileLimit) × (at + size (layout kind) ≤ length (now section))
+        × (base + suc (length (layout kind)) ≤ length (now out)) ⌝ }
     ensures { λ r. ⌜ now (out .exit) ≡ put (now (out .entry)) base (rowAt kind big (now (section .entry)) at) ⌝ }
 {
     out[base] = at as u32;
@@ -141,7 +138,7 @@ fn put_row(section: &[u8], at: usize, big: bool, kind: VersionRecord, out: &mut 
     version_record::write(section, at, big, kind, out, base + 1);
 }
 
-// Where the record after the one at `at` stands, or `at` where there is none.
+// Where the record after the one at `at` is, or `at` where there is none.
 fn place_after(section: &[u8], at: usize, big: bool, kind: VersionRecord) -> usize
     requires { ⌜ length (now section) ≤ fileLimit ⌝ }
     ensures { λ r. ⌜ r ≡ placeAfter at (onwardAtOf kind big (now (section .entry)) at) ⌝ }

@@ -12,10 +12,9 @@ use lib.Dec.{leb, ltb}
 use lib.ListN.{length, getD, take, set, length-take}
 use lib.Seq.{take-suc, take-all}
 use borrow.Author.Tests.{leb-true, leb-false, lt-ltb, le-ltb, eq-eqb, ne-eqb}
-use Rattle.answer.specs.Answer.{refuseOf, short, room}
+use Rattle.answer.specs.Answer.{refuseOf, cutOf, room}
 use Rattle.answer.specs.Test.{pick}
 use Rattle.answer.specs.declared.Refusal.{Refusal}
-use Rattle.answer.proofs.Laws.{must-on, must-off}
 use Rattle.fields.specs.Number.{numberAt}
 use Rattle.fields.specs.Field.{put}
 use Rattle.fields.specs.declared.WriteBytes.the-variants.{Done, Refused}
@@ -41,7 +40,8 @@ size-part (w ∷ ws) zero h = omega arith
 size-part (w ∷ ws) (suc i) h = omega (arith, size-part ws i (le-of-suc-le-suc h))
 
 -- the number of field `i`
-pub number-at : (big : Bool) (ws s : List ℕ) (at i : ℕ) → i < length ws → getD (numbersAt big ws s at) i 0 ≡ numberAt big (getD ws i 0) s (at + size (take i ws))
+pub number-at : (big : Bool) (ws s : List ℕ) (at i : ℕ) → i < length ws
+    → getD (numbersAt big ws s at) i 0 ≡ numberAt big (getD ws i 0) s (at + size (take i ws))
 unfolding numbersAt
 number-at big [] s at i h = absurd (not-suc-le-zero h)
 number-at big (w ∷ ws) s at zero h = let e : at + 0 ≡ at = omega arith in rw e
@@ -50,7 +50,9 @@ number-at big (w ∷ ws) s at (suc i) h =
     rw e (number-at big ws s (at + w) i (le-of-suc-le-suc h))
 
 -- a record that is not whole: what is answered for it
-read-missing : {A : Type 0} (full : List ℕ → A) (bad : A) (big : Bool) (ws s : List ℕ) (at : ℕ) → 0 < length ws → length s < at + size ws → Reads (full (numbersAt big ws s at)) (λ end. bad) ws s at (readBy full (λ end. bad) big ws s at) → bad ≡ readBy full (λ end. bad) big ws s at
+read-missing : {A : Type 0} (full : List ℕ → A) (bad : A) (big : Bool) (ws s : List ℕ) (at : ℕ) → 0 < length ws → length s < at + size ws
+    → Reads (full (numbersAt big ws s at)) (λ end. bad) ws s at (readBy full (λ end. bad) big ws s at)
+    → bad ≡ readBy full (λ end. bad) big ws s at
 read-missing full bad big ws s at n h (whole r e) = absurd (let z : at + size ws ≤ length s = r n in omega arith)
 read-missing full bad big ws s at n h (cut needed a b e) = sym e
 
@@ -81,7 +83,8 @@ sized Verneed = (omega arith, omega arith, omega arith, omega arith)
 sized Vernaux = (omega arith, omega arith, omega arith, omega arith)
 
 -- the offset of the next record is the last field of each
-pub next-is : (k : VersionRecord) (big : Bool) (s : List ℕ) (at : ℕ) → next k (numbersAt big (layout k) s at) ≡ numberAt big 4 s (at + (size (layout k) - 4))
+pub next-is : (k : VersionRecord) (big : Bool) (s : List ℕ) (at : ℕ)
+    → next k (numbersAt big (layout k) s at) ≡ numberAt big 4 s (at + (size (layout k) - 4))
 next-is Verdef big s at = number-at big (layout Verdef) s at 6 (omega arith)
 next-is Verdaux big s at = number-at big (layout Verdaux) s at 1 (omega arith)
 next-is Verneed big s at = number-at big (layout Verneed) s at 4 (omega arith)
@@ -115,47 +118,53 @@ module _ (k : VersionRecord) (s : List ℕ) (at n : ℕ) (e : n ≡ size (layout
   pub missing-is : leb (at + n) (length s) ≡ false → length s < at + size (layout k)
   missing-is t = rw e at (leb-false (at + n) (length s) t)
 
--- What stands at a place: a law for each way that it comes about.
+-- What is at a place: a law for each way that it comes about.
 module _ (k : VersionRecord) (big : Bool) (s : List ℕ) (at : ℕ) where
-  pub step-missing : length s < at + size (layout k) → Bad ≡ onwardAtOf k big s at
+  pub onward-missing : length s < at + size (layout k) → Bad ≡ onwardAtOf k big s at
   unfolding onwardAtOf
-  step-missing h = read-missing _ Bad big (layout k) s at (omega (arith, sized k)) h (reads _ _ big (layout k) s at)
+  onward-missing h = read-missing _ Bad big (layout k) s at (omega (arith, sized k)) h (reads _ _ big (layout k) s at)
 
-  -- a record that stands there is whole
-  pub step-there : (Bad ≡ onwardAtOf k big s at → ⊥) → at + size (layout k) ≤ length s
-  step-there n = ⊎-elim (λ h. h) (λ h. absurd (n (step-missing h))) (le-or-lt (at + size (layout k)) (length s))
+  -- a record that is there is whole
+  pub onward-there : (Bad ≡ onwardAtOf k big s at → ⊥) → at + size (layout k) ≤ length s
+  onward-there n = ⊎-elim (λ h. h) (λ h. absurd (n (onward-missing h))) (le-or-lt (at + size (layout k)) (length s))
 
   module _ (h : at + size (layout k) ≤ length s) where
-    pub judged : {x : Onward} → x ≡ pick (auxInside k (length s) at (numbersAt big (layout k) s at)) (onwardBy (next k (numbersAt big (layout k) s at))) Bad → x ≡ onwardAtOf k big s at
+    pub judged : {x : Onward}
+        → x ≡ pick (auxInside k (length s) at (numbersAt big (layout k) s at)) (onwardBy (next k (numbersAt big (layout k) s at))) Bad
+        → x ≡ onwardAtOf k big s at
     unfolding onwardAtOf
     judged e = e ∙ read-full big s _ _ (layout k) at h
 
-    pub step-past : {r : Bool} → r ≡ auxInside k (length s) at (numbersAt big (layout k) s at) → r ≡ false → Bad ≡ onwardAtOf k big s at
-    step-past a t = judged (rw (← a, t))
+    pub onward-past : {r : Bool} → r ≡ auxInside k (length s) at (numbersAt big (layout k) s at) → r ≡ false → Bad ≡ onwardAtOf k big s at
+    onward-past a t = judged (rw (← a, t))
 
-    pub step-last : {r : Bool} {n : ℕ} → r ≡ auxInside k (length s) at (numbersAt big (layout k) s at) → r ≡ true → n ≡ numberAt big 4 s (at + (size (layout k) - 4)) → n ≡ 0 → Last ≡ onwardAtOf k big s at
-    step-last {r} {n} a t e z = judged (rw (← a, t, next-is k big s at, ← e, eq-eqb n 0 z))
+    pub onward-last : {r : Bool} {n : ℕ} → r ≡ auxInside k (length s) at (numbersAt big (layout k) s at) → r ≡ true
+        → n ≡ numberAt big 4 s (at + (size (layout k) - 4)) → n ≡ 0 → Last ≡ onwardAtOf k big s at
+    onward-last {r} {n} a t e z = judged (rw (← a, t, next-is k big s at, ← e, eq-eqb n 0 z))
 
-    pub step-next : {r : Bool} {n : ℕ} → r ≡ auxInside k (length s) at (numbersAt big (layout k) s at) → r ≡ true → n ≡ numberAt big 4 s (at + (size (layout k) - 4)) → (n ≡ 0 → ⊥) → Next n ≡ onwardAtOf k big s at
-    step-next {r} {n} a t e z = judged (rw (← a, t, next-is k big s at, ← e, ne-eqb n 0 z))
+    pub onward-next : {r : Bool} {n : ℕ} → r ≡ auxInside k (length s) at (numbersAt big (layout k) s at) → r ≡ true
+        → n ≡ numberAt big 4 s (at + (size (layout k) - 4)) → (n ≡ 0 → ⊥) → Next n ≡ onwardAtOf k big s at
+    onward-next {r} {n} a t e z = judged (rw (← a, t, next-is k big s at, ← e, ne-eqb n 0 z))
 
--- the first auxiliary of a record that stands there is in the section
+-- the first auxiliary of a record that is there is in the section
 module _ (k : VersionRecord) (big : Bool) (s : List ℕ) (at : ℕ) (n : Bad ≡ onwardAtOf k big s at → ⊥) where
-  by-aux : (b : Bool) → b ≡ auxInside k (length s) at (numbersAt big (layout k) s at) → auxInside k (length s) at (numbersAt big (layout k) s at) ≡ true
+  by-aux : (b : Bool) → b ≡ auxInside k (length s) at (numbersAt big (layout k) s at)
+      → auxInside k (length s) at (numbersAt big (layout k) s at) ≡ true
   by-aux true e = sym e
-  by-aux false e = absurd (n (step-past k big s at (step-there k big s at n) e refl))
+  by-aux false e = absurd (n (onward-past k big s at (onward-there k big s at n) e refl))
 
-  pub step-aux : auxInside k (length s) at (numbersAt big (layout k) s at) ≡ true
-  step-aux = by-aux (auxInside k (length s) at (numbersAt big (layout k) s at)) refl
+  pub onward-aux : auxInside k (length s) at (numbersAt big (layout k) s at) ≡ true
+  onward-aux = by-aux (auxInside k (length s) at (numbersAt big (layout k) s at)) refl
 
--- Storing numbers one behind the other.
+-- Storing numbers one after the other.
 pub set-put : (l : List ℕ) (j x : ℕ) → j < length l → set l j x ≡ put l j (x ∷ [])
 set-put l j x h = put-sets l j (x ∷ []) (omega arith)
 
 pub put-start : (o : List ℕ) (base : ℕ) (ns : List ℕ) → base ≤ length o → o ≡ put o base (take 0 ns)
 put-start o base ns h = put-sets o base [] (omega arith)
 
-pub put-next : (o l ns : List ℕ) (base i x : ℕ) → l ≡ put o base (take i ns) → length l ≡ length o → i < length ns → base + length ns ≤ length o → x ≡ getD ns i 0 → set l (base + i) x ≡ put o base (take (i + 1) ns)
+pub put-next : (o l ns : List ℕ) (base i x : ℕ) → l ≡ put o base (take i ns) → length l ≡ length o → i < length ns
+    → base + length ns ≤ length o → x ≡ getD ns i 0 → set l (base + i) x ≡ put o base (take (i + 1) ns)
 put-next o l ns base i x e q h r f =
     let t : length (take i ns) ≡ i = length-take i ns ∙ omega arith in
     set-put l (base + i) x (omega arith)
@@ -163,22 +172,26 @@ put-next o l ns base i x e q h r f =
 
 -- Writing a record's numbers: a law for each way that it comes about.
 module _ (k : VersionRecord) (big : Bool) (s : List ℕ) (at : ℕ) (o : List ℕ) (base : ℕ) where
-  pub write-short : {q : Refusal} → wholeAt k s at ≡ false → q ≡ refuseOf short → (Refused q ≡ writeOf k s at o base) × (o ≡ writeOut k big s at o base)
+  pub write-short : {q : Refusal} → wholeAt k s at ≡ false → q ≡ cutOf (at + size (layout k))
+      → (Refused q ≡ writeOf k s at o base) × (o ≡ writeOut k big s at o base)
   unfolding writeOf writeOut
-  write-short w e = (must-off _ _ _ _ w e, rw w)
+  write-short w e = rw (w, e) (refl, refl)
 
   numbers-length : length (numbersAt big (layout k) s at) ≡ length (layout k)
   numbers-length = length-numbers big (layout k) s at
 
-  pub write-full : {q : Refusal} → wholeAt k s at ≡ true → length o < base + length (layout k) → q ≡ refuseOf room → (Refused q ≡ writeOf k s at o base) × (o ≡ writeOut k big s at o base)
+  pub write-full : {q : Refusal} → wholeAt k s at ≡ true → length o < base + length (layout k) → q ≡ refuseOf room
+      → (Refused q ≡ writeOf k s at o base) × (o ≡ writeOut k big s at o base)
   unfolding writeOf writeOut
   write-full w h e =
       let p = store-refused (length (layout k)) o base (numbersAt big (layout k) s at) numbers-length h e in
-      (must-on _ _ _ _ w (p .0), rw w (p .1))
+      rw w p
 
-  pub write-done : (n : ℕ) {l : List ℕ} → wholeAt k s at ≡ true → base + length (layout k) ≤ length o → length (layout k) ≤ n → l ≡ put o base (take n (numbersAt big (layout k) s at)) → (Done ≡ writeOf k s at o base) × (l ≡ writeOut k big s at o base)
+  pub write-done : (n : ℕ) {l : List ℕ} → wholeAt k s at ≡ true → base + length (layout k) ≤ length o → length (layout k) ≤ n
+      → l ≡ put o base (take n (numbersAt big (layout k) s at)) → (Done ≡ writeOf k s at o base) × (l ≡ writeOut k big s at o base)
   unfolding writeOf writeOut
   write-done n {l} w h m e =
-      let t : take n (numbersAt big (layout k) s at) ≡ numbersAt big (layout k) s at = take-all n (numbersAt big (layout k) s at) (omega (arith, numbers-length)) in
+      let t : take n (numbersAt big (layout k) s at) ≡ numbersAt big (layout k) s at = take-all n (numbersAt big (layout k) s at)
+      (omega (arith, numbers-length)) in
       let p = store-done (length (layout k)) o base (numbersAt big (layout k) s at) numbers-length h (e ∙ rw t) in
-      (must-on _ _ _ _ w (p .0), rw w (p .1))
+      rw w p

@@ -1,2 +1,2 @@
--- `Record` has the four records, and what stands at a place of a list of them.
+-- `Record` has the four records, and what is at a place of a list of them.
 pub mod Record

@@ -1,19 +1,16 @@
--- LSB Core 5.0, "Symbol Versioning": the records of the sections .gnu.version_d (Version Definition Entries and their auxiliaries)
--- and .gnu.version_r (Version Needed Entries and their auxiliaries). They are the same for either class of ELF file.
--- Document 01: "Verdef 20 bytes, its auxiliary 8, verneed 16, its auxiliary 16."
+-- The four records of the version sections (LSB Core 5.0, "Symbol Versioning"), and what is at a place of a list of them.
 -- Assumes nothing.
 use Prim.Native.Nat.{ℕ, _+_}
-use Prim.Native.String.{String}
 use mathlib.Core.List.{List, [], _∷_}
 use mathlib.Core.Bool.{Bool, true}
-use lib.ListN.{length, getD}
+use lib.ListN.{length}
 use lib.Dec.{leb, ltb, eqb}
-use Rattle.answer.specs.Answer.{short}
-use Rattle.answer.specs.Test.{pick, must}
+use Rattle.answer.specs.Answer.{cutOf}
+use Rattle.answer.specs.Test.{pick}
 use Rattle.fields.specs.Field.{stored, writeOf as writtenIn}
 use Rattle.fields.specs.declared.WriteBytes.{WriteBytes}
 use Rattle.fields.specs.declared.WriteBytes.the-variants.{Refused}
-use Rattle.layout.specs.Layout.{Field, field, widths, place, size, readBy, numbersAt}
+use Rattle.layout.specs.Layout.{Field, field, widths, the, size, reading, numbersAt}
 use Rattle.version_record.specs.declared.VersionRecord.{VersionRecord}
 use Rattle.version_record.specs.declared.VersionRecord.the-variants.{Verdef, Verdaux, Verneed, Vernaux}
 use Rattle.version_record.specs.declared.Onward.{Onward}
@@ -21,7 +18,7 @@ use Rattle.version_record.specs.declared.Onward.the-variants.{Next, Last
 
 -- offset, width, name
 abbrev pub fields : VersionRecord → List Field
--- Elfxx_Verdef, a version definition
+-- 4.21
 fields Verdef =
     field 0 2 "vd_version"
     ∷ field 2 2 "vd_flags"
@@ -31,9 +28,9 @@ fields Verdef =
     ∷ field 12 4 "vd_aux"
     ∷ field 16 4 "vd_next"
     ∷ []
--- Elfxx_Verdaux, an auxiliary of a definition
+-- 4.22
 fields Verdaux = field 0 4 "vda_name" ∷ field 4 4 "vda_next" ∷ []
--- Elfxx_Verneed, a file that is needed
+-- 4.23
 fields Verneed =
     field 0 2 "vn_version"
     ∷ field 2 2 "vn_cnt"
@@ -41,7 +38,7 @@ fields Verneed =
     ∷ field 8 4 "vn_aux"
     ∷ field 12 4 "vn_next"
     ∷ []
--- Elfxx_Vernaux, a version that is needed of it
+-- 4.24
 fields Vernaux =
     field 0 4 "vna_hash"
     ∷ field 4 2 "vna_flags"
@@ -53,45 +50,42 @@ fields Vernaux =
 abbrev pub layout : VersionRecord → List ℕ
 layout k = widths (fields k)
 
--- how many fields a record has
+-- 14.16: how many fields a record has; its row has one number more
 abbrev pub fieldsOf : VersionRecord → ℕ
 fieldsOf k = length (layout k)
 
--- the number of a field, by its name
-abbrev pub the : VersionRecord → String → List ℕ → ℕ
-the k x ns = getD ns (place x (fields k)) 0
-
--- how far from its start the next record stands
+-- 14.7: how many bytes after its own start the next record is, the last field of each
 abbrev pub next : VersionRecord → List ℕ → ℕ
-next Verdef ns = the Verdef "vd_next" ns
-next Verdaux ns = the Verdaux "vda_next" ns
-next Verneed ns = the Verneed "vn_next" ns
-next Vernaux ns = the Vernaux "vna_next" ns
+next Verdef ns = the (fields Verdef) "vd_next" ns
+next Verdaux ns = the (fields Verdaux) "vda_next" ns
+next Verneed ns = the (fields Verneed) "vn_next" ns
+next Vernaux ns = the (fields Vernaux) "vna_next" ns
 
--- "'Next' and auxiliary offsets are from the current record": whether the first auxiliary of the record at `at` stands before the
--- end of a section of `len` bytes. The version field is not looked at, nor is the number of auxiliaries. An auxiliary has none itself.
+-- 14.10, 14.11: whether the auxiliary offset of the record at `at` leads before the end of a section of `len` bytes; neither the version
+-- nor the number of auxiliaries is looked at, and an auxiliary has no such offset
 unfoldable pub auxInside : VersionRecord → ℕ → ℕ → List ℕ → Bool
-auxInside Verdef len at ns = ltb (at + the Verdef "vd_aux" ns) len
+auxInside Verdef len at ns = ltb (at + the (fields Verdef) "vd_aux" ns) len
 auxInside Verdaux len at ns = true
-auxInside Verneed len at ns = ltb (at + the Verneed "vn_aux" ns) len
+auxInside Verneed len at ns = ltb (at + the (fields Verneed) "vn_aux" ns) len
 auxInside Vernaux len at ns = true
 
--- "a next of 0 ends the list"
+-- 14.7: a next of 0 ends the list with this record
 abbrev pub onwardBy : ℕ → Onward
 onwardBy n = pick (eqb n 0) Last (Next n)
 
--- what stands at `at` of a section's bytes
+-- 14.7, 14.9, 14.10: what is at `at` of a section's bytes: a record and the way to the next, or none, which stops the list
 unfoldable pub onwardAtOf : VersionRecord → Bool → List ℕ → ℕ → Onward
-onwardAtOf k big s at = readBy (λ ns. pick (auxInside k (length s) at ns) (onwardBy (next k ns)) Bad) (λ end. Bad) big (layout k) s at
+onwardAtOf k big s at =
+    reading (λ refusal. Bad) big (fields k) s at (λ ns. pick (auxInside k (length s) at ns) (onwardBy (next k ns)) Bad)
 
 -- the record at `at` is whole
 abbrev pub wholeAt : VersionRecord → List ℕ → ℕ → Bool
 wholeAt k s at = leb (at + size (layout k)) (length s)
 
--- writing its numbers into a list `o` from `base`: 1 where it is not whole, then 13 where there is no room
+-- 14.20: writing its numbers into a list `o` from `base`: 1 where it is not whole, at its end, then 13 where there is no room
 unfoldable pub writeOf : VersionRecord → List ℕ → ℕ → List ℕ → ℕ → WriteBytes
-writeOf k s at o base = must Refused (wholeAt k s at) short (writtenIn (length (layout k)) o base)
+writeOf k s at o base = pick (wholeAt k s at) (writtenIn (length (layout k)) o base) (Refused (cutOf (at + size (layout k))))
 
--- what the list is then
+-- 2.3, 14.20: what the list is then
 unfoldable pub writeOut : VersionRecord → Bool → List ℕ → ℕ → List ℕ → ℕ → List ℕ
 writeOut k big s at o base = pick (wholeAt k s at) (stored o base (numbersAt big (layout k) s at)) o

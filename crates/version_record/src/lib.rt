@@ -1,4 +1,4 @@
-// The four records of the version sections: their numbers, and what stands at a place of a list of them.
+// The four records of the version sections: their numbers, and what is at a place of a list of them.
 ghost use mathlib.Core.Path.{_≡_};
 ghost use mathlib.Core.Logic.{_⊎_};
 ghost use Prim.Native.Nat.{_+_, _≤_, _<_};
@@ -7,7 +7,7 @@ ghost use Rattle.fields.specs.Number.{numberAt};
 ghost use lib.Dec.{ltb};
 ghost use Rattle.layout.specs.Layout.{size, numbersAt};
 ghost use Rattle.version_record.specs.Record.{layout, fieldsOf, auxInside, onwardAtOf, writeOf, writeOut};
-use answer::Refusal;
+use answer::Reason;
 use cursor::Cursor;
 use cursor::NextU16;
 use cursor::NextU32;
@@ -20,13 +20,13 @@ pub enum VersionRecord {
     Vernaux,
 }
 
-// What stands at a place of a list.
+// What is at a place of a list.
 pub enum Onward {
-    // A record, and how far from its start the next one stands.
+    // A record, and how far from its start the next one is.
     Next(u32),
     // A record that has no next.
     Last,
-    // No whole record, or one whose first auxiliary would stand past the section.
+    // No whole record, or one whose first auxiliary would be past the section.
     Bad,
 }
 
@@ -78,7 +78,8 @@ pub fn write(
     out: &mut [u32],
     base: usize,
 ) -> WriteBytes
-    ensures { λ r. ⌜ (r ≡ writeOf kind (now (section .entry)) at (now (out .entry)) base) × (now (out .exit) ≡ writeOut kind big (now (section .entry)) at (now (out .entry)) base) ⌝ }
+    ensures { λ r. ⌜ (r ≡ writeOf kind (now (section .entry)) at (now (out .entry)) base)
+        × (now (out .exit) ≡ writeOut kind big (now (section .entry)) at (now (out .entry)) base) ⌝ }
 {
     let size = size_of(kind);
     let n = fields_of(kind);
@@ -94,13 +95,9 @@ pub fn write(
             }
             return WriteBytes::Done;
         }
-        return WriteBytes::Refused(Refusal {
-            number: answer::ROOM,
-        });
+        return WriteBytes::Refused(answer::refuse(Reason::Room));
     }
-    WriteBytes::Refused(Refusal {
-        number: answer::SHORT,
-    })
+    WriteBytes::Refused(answer::cut(at, size))
 }
 
 fn size_of(kind: VersionRecord) -> usize
@@ -126,7 +123,7 @@ fn width(kind: VersionRecord, i: usize) -> usize
     }
 }
 
-// Whether the first auxiliary of the record at `at`, if it is of a kind that has some, stands before the section's end.
+// Whether the first auxiliary of the record at `at`, if it is of a kind that has some, is before the section's end.
 fn aux_inside(section: &[u8], at: usize, big: bool, kind: VersionRecord) -> bool
     requires { ⌜ at + size (layout kind) ≤ length (now section) ⌝ }
     ensures { λ r. ⌜ r ≡ auxInside kind (length (now (section .entry))) at (numbersAt big (layout kind) (now (section .entry)) at) ⌝ }

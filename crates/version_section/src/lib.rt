@@ -5,7 +5,7 @@ use answer::Refusal;
 pub enum CountEntries {
     // All of it is entries.
     Whole(usize),
-    // The entries before bytes that are none: answer 1 stands beside their number, and it is not a refusal.
+    // The entries before bytes that are none: the answer is 1 with their number, and it is no refusal.
     Cut(usize),
     Refused(Refusal),
 }

@@ -1,6 +1,7 @@
 // The symbol version table (SHT_GNU_versym): for each symbol a number of 16 bits, with the version and whether it is hidden.
 ghost use mathlib.Core.Path.{_≡_};
 ghost use Rattle.versym.specs.Versym.{versymOf, countInOf, countOf, getAtInOf, getAtOf};
+use answer::Reason;
 use answer::Refusal;
 use cursor::Cursor;
 use cursor::NextU16;
@@ -8,7 +9,7 @@ use version_section::CountEntries;
 
 const SIZE: usize = 2;
 
-const HIDDEN: u16 = 32768;
+const HIDDEN: u16 = 0x8000;
 
 pub struct Versym {
     pub hidden: bool,
@@ -25,17 +26,13 @@ pub fn count(file: &[u8], start: usize, size: usize) -> CountEntries
     ensures { λ r. ⌜ r ≡ countOf (now (file .entry)) start size ⌝ }
 {
     if answer::FILE_LIMIT < file.len() {
-        return CountEntries::Refused(Refusal {
-            number: answer::LIMIT,
-        });
+        return CountEntries::Refused(answer::refuse(Reason::Limit));
     }
     if fields::fits(file.len(), start, size) {
         let end = start + size;
         return count_in(&file[start..end]);
     }
-    CountEntries::Refused(Refusal {
-        number: answer::SHORT,
-    })
+    CountEntries::Refused(answer::cut(start, size))
 }
 
 // The entry at `index` of that section.
@@ -43,20 +40,16 @@ pub fn get_at(file: &[u8], start: usize, size: usize, index: usize, big: bool) -
     ensures { λ r. ⌜ r ≡ getAtOf big (now (file .entry)) start size index ⌝ }
 {
     if answer::FILE_LIMIT < file.len() {
-        return ReadVersym::Refused(Refusal {
-            number: answer::LIMIT,
-        });
+        return ReadVersym::Refused(answer::refuse(Reason::Limit));
     }
     if fields::fits(file.len(), start, size) {
         let end = start + size;
         return get_at_in(&file[start..end], index, big);
     }
-    ReadVersym::Refused(Refusal {
-        number: answer::SHORT,
-    })
+    ReadVersym::Refused(answer::cut(start, size))
 }
 
-// The same of a section's own bytes.
+// How many entries a section's own bytes have.
 pub fn count_in(section: &[u8]) -> CountEntries
     ensures { λ r. ⌜ r ≡ countInOf (now (section .entry)) ⌝ }
 {
@@ -67,6 +60,7 @@ pub fn count_in(section: &[u8]) -> CountEntries
     CountEntries::Cut(entries)
 }
 
+// The entry at `index` of a section's own bytes.
 pub fn get_at_in(section: &[u8], index: usize, big: bool) -> ReadVersym
     ensures { λ r. ⌜ r ≡ getAtInOf big (now (section .entry)) index ⌝ }
 {
@@ -76,9 +70,7 @@ pub fn get_at_in(section: &[u8], index: usize, big: bool) -> ReadVersym
             NextU16::Refused(k) => ReadVersym::Refused(k),
         };
     }
-    ReadVersym::Refused(Refusal {
-        number: answer::NOT_FOUND,
-    })
+    ReadVersym::Refused(answer::refuse(Reason::NotFound))
 }
 
 fn versym_of(value: u16) -> Versym

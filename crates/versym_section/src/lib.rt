@@ -1,5 +1,5 @@
-// The symbol version table as a struct that holds its part of the file, as the Rust's does. Each function over it takes it apart and
-// calls the function of `versym` on the bytes; `entry_of` has plain parameters, so that a caller of it needs no proof by hand.
+// The symbol version table as a struct that holds its part of the file, as goblin's does. Each function over it takes it apart and
+// calls the function of `versym` on the bytes; `get_at_of` has plain parameters, so that a caller of it needs no proof by hand.
 ghost use mathlib.Core.Path.{_≡_};
 ghost use Rattle.versym.specs.Versym.{countInOf, getAtInOf};
 use version_section::CountEntries;

@@ -81,7 +81,7 @@ impl<'a> Mapped<'a> {
     }
 }
 
-/// Opening by the parts, in document 01's order; goblin checks neither the order of the table nor that it lies in the file.
+/// Opening by the parts, in the order of docs/SPEC.md 8.1; goblin checks neither the order of the table nor that it lies in the file.
 fn opened(bytes: &[u8]) -> Option<Result<Vec<String>, ()>> {
     let image = match crate::pe::image(bytes)? {
         Ok(image) => image,

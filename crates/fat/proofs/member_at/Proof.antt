@@ -1,4 +1,4 @@
--- `fat::member_at` meets its contract: what opening answered tells the list behind it, and a member of it is the one that stands at its place.
+-- `fat::member_at` meets its contract: what opening answered tells the list that it counts, and a member of it is the one at its place.
 -- Assumes nothing.
 use native.Mathlib.Omega.{arith}
 use mathlib.Core.Path.{refl, sym, _∙_}
@@ -32,10 +32,19 @@ read-requires : tie.Need-read-requires
 read-requires c κs = search needs
 
 returns-2 : tie.Need-returns-2
-returns-2 c = found-at _ _ _ (sym (c .before .before .before .n .given .1) ∙ c .before .before .before .before .before .«open» .ensures) (omega arith) refl (c .read .ensures)
+returns-2 c =
+    let c3 = c .before .before .before in
+    let c5 = c3 .before .before in
+    found-at _ _ _ (sym (c3 .n .given .1) ∙ c5 .«open» .ensures) (omega arith) refl (c .read .ensures)
+
+refuse-requires : tie.Need-refuse-requires
+refuse-requires c κs = search needs
 
 returns-3 : tie.Need-returns-3
-returns-3 c = found-past _ _ (sym (c .before .before .n .given .1) ∙ c .before .before .before .before .«open» .ensures) (omega arith) refl
+returns-3 c =
+    let c3 = c .before .before .before in
+    let c5 = c3 .before .before in
+    found-past _ _ (sym (c3 .n .given .1) ∙ c5 .«open» .ensures) (omega arith) (c .refuse .ensures)
 
 pub member-at-spec : {M : Type 1} → statement M
 member-at-spec =
@@ -50,4 +59,5 @@ member-at-spec =
     add-read
     read-requires
     returns-2
+    refuse-requires
     returns-3)

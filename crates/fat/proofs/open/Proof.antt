@@ -1,4 +1,5 @@
--- `fat::open` meets its contract. The loop's invariant: the `left` members from `at` on are answered as all of them are, and `at` does not wrap.
+-- `fat::open` meets its contract. The loop's invariant: the `left` members from `at` on are answered as all of them are, and `at` does not
+-- wrap.
 -- The measure is what is left.
 -- Assumes nothing.
 use native.Mathlib.Omega.{arith}
@@ -12,7 +13,8 @@ use Rattle.fat.proofs.open.Statement.{statement}
 use Rattle.fat.proofs.open.Tie as tie
 
 abbrev Inv-loop : tie.InvT-loop
-Inv-loop file count left₀ at₀ left at = (at + 20 * left ≡ 8 + 20 * count) × (counted count (membersAt fatArch count file 8) ≡ counted count (membersAt fatArch left file at))
+Inv-loop file count left₀ at₀ left at = (at + 20 * left ≡ 8 + 20 * count) ×
+    (counted count (membersAt fatArch count file 8) ≡ counted count (membersAt fatArch left file at))
 
 abbrev μ-loop : tie.MeasureT-loop
 μ-loop file count left₀ at₀ left at = left
@@ -42,7 +44,14 @@ enum-known-k-2 : tie.Need-enum-known-k-2 Inv-loop μ-loop
 enum-known-k-2 c = search needs
 
 returns-2 : tie.Need-returns-2 Inv-loop μ-loop
-returns-2 c = opened-members _ (sym (c .before .before .before .before .before .before .before .n .given .1) ∙ c .before .before .before .before .before .before .before .before .before .header .ensures) (sym (c .before .before .before .before .before .loop .inv .1 ∙ members-stop fatArch _ _ _ _ (c .before .before .before .before .loop-test .taken) (sym (c .before .k2 .given .1) ∙ c .before .before .before .read .ensures)))
+returns-2 c =
+    let c3 = c .before .before .before in
+    let c4 = c3 .before in
+    let c5 = c4 .before in
+    let c7 = c5 .before .before in
+    let c9 = c7 .before .before in
+    opened-members _ (sym (c7 .n .given .1) ∙ c9 .header .ensures)
+    (sym (c5 .loop .inv .1 ∙ members-stop fatArch _ _ _ _ (c4 .loop-test .taken) (sym (c .before .k2 .given .1) ∙ c3 .read .ensures)))
 
 sub-left : tie.Need-sub-left Inv-loop μ-loop
 sub-left c = search needs
@@ -54,10 +63,20 @@ loop-less : tie.Need-loop-less Inv-loop μ-loop
 loop-less c = search needs
 
 loop-again : tie.Need-loop-again Inv-loop μ-loop
-loop-again c = (omega arith, c .before .before .before .before .loop .inv .1 ∙ members-on fatArch _ _ _ _ (c .before .before .before .loop-test .taken) (sym (c .enum-told .given .1) ∙ c .before .before .read .ensures))
+loop-again c =
+    let c3 = c .before .before .before in
+    let c4 = c3 .before in (
+      omega arith,
+      c4 .loop .inv .1 ∙ members-on fatArch _ _ _ _ (c3 .loop-test .taken)
+          (sym (c .enum-told .given .1) ∙ c .before .before .read .ensures),
+    )
 
 returns-3 : tie.Need-returns-3 Inv-loop μ-loop
-returns-3 c = opened-members _ (sym (c .before .before .before .n .given .1) ∙ c .before .before .before .before .before .header .ensures) (sym (c .before .loop .inv .1 ∙ members-none fatArch _ _ _ _ (omega arith)))
+returns-3 c =
+    let c3 = c .before .before .before in
+    let c5 = c3 .before .before in
+    opened-members _ (sym (c3 .n .given .1) ∙ c5 .header .ensures)
+    (sym (c .before .loop .inv .1 ∙ members-none fatArch _ _ _ _ (omega arith)))
 
 pub open-spec : {M : Type 1} → statement M
 open-spec =

@@ -1,7 +1,7 @@
 -- `fat_member::read` meets its contract: each field is taken where the one before it ends, and each return is a case of `readOf`.
 -- Assumes nothing.
 use native.Mathlib.Omega.{arith}
-use mathlib.Core.Path.{refl, sym, _∙_}
+use mathlib.Core.Path.{sym, _∙_}
 use Prim.Native.Nat.{_+_, _≤_, _<_}
 use lib.ListN.{length}
 use borrow.Author.Tests.{leb-true, leb-false}
@@ -42,9 +42,13 @@ enum-known-k-2 c = search needs
 
 returns-2 : tie.Need-returns-2
 returns-2 c =
-    let z = new-at (c .before .before .before .before .before .before .before .before .new .ensures) in
-    let f0 = u32-took _ _ _ (c .before .before .before .before .before .before .before .next-u32 .ensures) (c .before .before .before .before .before .t .given .1) in
-    let m = u32-cut _ _ _ (c .before .before .before .next-u322 .ensures) (c .before .k2 .given .1) in
+    let c3 = c .before .before .before in
+    let c5 = c3 .before .before in
+    let c7 = c5 .before .before in
+    let c8 = c7 .before in
+    let z = new-at (c8 .new .ensures) in
+    let f0 = u32-took _ _ _ (c7 .next-u32 .ensures) (c5 .t .given .1) in
+    let m = u32-cut _ _ _ (c3 .next-u322 .ensures) (c .before .k2 .given .1) in
     member-no-front fatArch _ _ 1 (omega arith) m (omega arith) (λ i. omega arith)
 
 next-u32-requires-3 : tie.Need-next-u32-requires-3
@@ -58,10 +62,16 @@ enum-known-k-3 c = search needs
 
 returns-3 : tie.Need-returns-3
 returns-3 c =
-    let z = new-at (c .before .before .before .before .before .before .before .before .before .before .before .before .new .ensures) in
-    let f0 = u32-took _ _ _ (c .before .before .before .before .before .before .before .before .before .before .before .next-u32 .ensures) (c .before .before .before .before .before .before .before .before .before .t .given .1) in
-    let f1 = u32-took _ _ _ (c .before .before .before .before .before .before .before .next-u322 .ensures) (c .before .before .before .before .before .t2 .given .1) in
-    let m = u32-cut _ _ _ (c .before .before .before .next-u323 .ensures) (c .before .k3 .given .1) in
+    let c3 = c .before .before .before in
+    let c5 = c3 .before .before in
+    let c7 = c5 .before .before in
+    let c9 = c7 .before .before in
+    let c11 = c9 .before .before in
+    let c12 = c11 .before in
+    let z = new-at (c12 .new .ensures) in
+    let f0 = u32-took _ _ _ (c11 .next-u32 .ensures) (c9 .t .given .1) in
+    let f1 = u32-took _ _ _ (c7 .next-u322 .ensures) (c5 .t2 .given .1) in
+    let m = u32-cut _ _ _ (c3 .next-u323 .ensures) (c .before .k3 .given .1) in
     member-no-front fatArch _ _ 2 (omega arith) m (omega arith) (λ i. omega arith)
 
 next-u32-requires-4 : tie.Need-next-u32-requires-4
@@ -75,11 +85,19 @@ enum-known-k-4 c = search needs
 
 returns-4 : tie.Need-returns-4
 returns-4 c =
-    let z = new-at (c .before .before .before .before .before .before .before .before .before .before .before .before .before .before .before .before .new .ensures) in
-    let f0 = u32-took _ _ _ (c .before .before .before .before .before .before .before .before .before .before .before .before .before .before .before .next-u32 .ensures) (c .before .before .before .before .before .before .before .before .before .before .before .before .before .t .given .1) in
-    let f1 = u32-took _ _ _ (c .before .before .before .before .before .before .before .before .before .before .before .next-u322 .ensures) (c .before .before .before .before .before .before .before .before .before .t2 .given .1) in
-    let f2 = u32-took _ _ _ (c .before .before .before .before .before .before .before .next-u323 .ensures) (c .before .before .before .before .before .t3 .given .1) in
-    let m = u32-cut _ _ _ (c .before .before .before .next-u324 .ensures) (c .before .k4 .given .1) in
+    let c3 = c .before .before .before in
+    let c5 = c3 .before .before in
+    let c7 = c5 .before .before in
+    let c9 = c7 .before .before in
+    let c11 = c9 .before .before in
+    let c13 = c11 .before .before in
+    let c15 = c13 .before .before in
+    let c16 = c15 .before in
+    let z = new-at (c16 .new .ensures) in
+    let f0 = u32-took _ _ _ (c15 .next-u32 .ensures) (c13 .t .given .1) in
+    let f1 = u32-took _ _ _ (c11 .next-u322 .ensures) (c9 .t2 .given .1) in
+    let f2 = u32-took _ _ _ (c7 .next-u323 .ensures) (c5 .t3 .given .1) in
+    let m = u32-cut _ _ _ (c3 .next-u324 .ensures) (c .before .k4 .given .1) in
     member-no-front fatArch _ _ 3 (omega arith) m (omega arith) (λ i. omega arith)
 
 inside-requires : tie.Need-inside-requires
@@ -97,15 +115,29 @@ enum-known-k-5 c = search needs
 returns-5 : tie.Need-returns-5
 unfolding numbersAt
 returns-5 c =
-    let z = new-at (c .before .before .before .before .before .before .before .before .before .before .before .before .before .before .before .before .before .before .before .before .before .before .new .ensures) in
-    let f0 = u32-took _ _ _ (c .before .before .before .before .before .before .before .before .before .before .before .before .before .before .before .before .before .before .before .before .before .next-u32 .ensures) (c .before .before .before .before .before .before .before .before .before .before .before .before .before .before .before .before .before .before .before .t .given .1) in
-    let f1 = u32-took _ _ _ (c .before .before .before .before .before .before .before .before .before .before .before .before .before .before .before .before .before .next-u322 .ensures) (c .before .before .before .before .before .before .before .before .before .before .before .before .before .before .before .t2 .given .1) in
-    let f2 = u32-took _ _ _ (c .before .before .before .before .before .before .before .before .before .before .before .before .before .next-u323 .ensures) (c .before .before .before .before .before .before .before .before .before .before .before .t3 .given .1) in
-    let f3 = u32-took _ _ _ (c .before .before .before .before .before .before .before .before .before .next-u324 .ensures) (c .before .before .before .before .before .before .before .t4 .given .1) in
-    let n2 = number-there {at = c .before .before .before .before .before .before .before .before .before .before .before .before .before .before .before .before .before .before .before .before .before .before .before .before .args .at + 4 + 4} f2 (omega arith) in
-    let n3 = number-there {at = c .before .before .before .before .before .before .before .before .before .before .before .before .before .before .before .before .before .before .before .before .before .before .before .before .args .at + 4 + 4 + 4} f3 (omega arith) in
-    let h : c .before .before .before .before .before .before .before .before .before .before .before .t3 .given .0 .0 .value + c .before .before .before .before .before .before .before .t4 .given .0 .0 .value ≤ length (c .before .before .before .before .before .before .before .before .before .before .before .before .before .before .before .before .before .before .before .before .before .before .before .before .args .file .now) = leb-true _ _ (sym (c .before .before .before .before .before .inside .ensures) ∙ c .before .before .before .before .if1 .taken) in
-    let m = u32-cut _ _ _ (c .before .before .before .next-u325 .ensures) (c .before .k5 .given .1) in
+    let c3 = c .before .before .before in
+    let c4 = c3 .before in
+    let c5 = c4 .before in
+    let c7 = c5 .before .before in
+    let c9 = c7 .before .before in
+    let c11 = c9 .before .before in
+    let c13 = c11 .before .before in
+    let c15 = c13 .before .before in
+    let c17 = c15 .before .before in
+    let c19 = c17 .before .before in
+    let c21 = c19 .before .before in
+    let c22 = c21 .before in
+    let c24 = c22 .before .before in
+    let z = new-at (c22 .new .ensures) in
+    let f0 = u32-took _ _ _ (c21 .next-u32 .ensures) (c19 .t .given .1) in
+    let f1 = u32-took _ _ _ (c17 .next-u322 .ensures) (c15 .t2 .given .1) in
+    let f2 = u32-took _ _ _ (c13 .next-u323 .ensures) (c11 .t3 .given .1) in
+    let f3 = u32-took _ _ _ (c9 .next-u324 .ensures) (c7 .t4 .given .1) in
+    let n2 = number-there {at = c24 .args .at + 4 + 4} f2 (omega arith) in
+    let n3 = number-there {at = c24 .args .at + 4 + 4 + 4} f3 (omega arith) in
+    let h : c11 .t3 .given .0 .0 .value + c7 .t4 .given .0 .0 .value ≤ length (c24 .args .file .now) = leb-true _ _
+    (sym (c5 .inside .ensures) ∙ c4 .if1 .taken) in
+    let m = u32-cut _ _ _ (c3 .next-u325 .ensures) (c .before .k5 .given .1) in
     member-no-back fatArch _ _ (omega arith) (omega arith) 0 (omega arith) m (omega arith) (λ i. omega arith)
 
 member-of-requires : tie.Need-member-of-requires
@@ -114,32 +146,60 @@ member-of-requires c κs = search needs
 returns-6 : tie.Need-returns-6
 unfolding numbersAt
 returns-6 c =
-    let z = new-at (c .before .before .before .before .before .before .before .before .before .before .before .before .before .before .before .before .before .before .before .before .before .before .before .new .ensures) in
-    let f0 = u32-took _ _ _ (c .before .before .before .before .before .before .before .before .before .before .before .before .before .before .before .before .before .before .before .before .before .before .next-u32 .ensures) (c .before .before .before .before .before .before .before .before .before .before .before .before .before .before .before .before .before .before .before .before .t .given .1) in
-    let f1 = u32-took _ _ _ (c .before .before .before .before .before .before .before .before .before .before .before .before .before .before .before .before .before .before .next-u322 .ensures) (c .before .before .before .before .before .before .before .before .before .before .before .before .before .before .before .before .t2 .given .1) in
-    let f2 = u32-took _ _ _ (c .before .before .before .before .before .before .before .before .before .before .before .before .before .before .next-u323 .ensures) (c .before .before .before .before .before .before .before .before .before .before .before .before .t3 .given .1) in
-    let f3 = u32-took _ _ _ (c .before .before .before .before .before .before .before .before .before .before .next-u324 .ensures) (c .before .before .before .before .before .before .before .before .t4 .given .1) in
-    let f4 = u32-took _ _ _ (c .before .before .before .before .next-u325 .ensures) (c .before .before .t5 .given .1) in
-    let n0 = number-there {at = c .before .before .before .before .before .before .before .before .before .before .before .before .before .before .before .before .before .before .before .before .before .before .before .before .before .args .at} f0 (omega arith) in
-    let n1 = number-there {at = c .before .before .before .before .before .before .before .before .before .before .before .before .before .before .before .before .before .before .before .before .before .before .before .before .before .args .at + 4} f1 (omega arith) in
-    let n2 = number-there {at = c .before .before .before .before .before .before .before .before .before .before .before .before .before .before .before .before .before .before .before .before .before .before .before .before .before .args .at + 4 + 4} f2 (omega arith) in
-    let n3 = number-there {at = c .before .before .before .before .before .before .before .before .before .before .before .before .before .before .before .before .before .before .before .before .before .before .before .before .before .args .at + 4 + 4 + 4} f3 (omega arith) in
-    let n4 = number-there {at = c .before .before .before .before .before .before .before .before .before .before .before .before .before .before .before .before .before .before .before .before .before .before .before .before .before .args .at + 16} f4 (omega arith) in
-    let h : c .before .before .before .before .before .before .before .before .before .before .before .before .t3 .given .0 .0 .value + c .before .before .before .before .before .before .before .before .t4 .given .0 .0 .value ≤ length (c .before .before .before .before .before .before .before .before .before .before .before .before .before .before .before .before .before .before .before .before .before .before .before .before .before .args .file .now) = leb-true _ _ (sym (c .before .before .before .before .before .before .inside .ensures) ∙ c .before .before .before .before .before .if1 .taken) in
+    let c4 = c .before .before .before .before in
+    let c5 = c4 .before in
+    let c6 = c5 .before in
+    let c8 = c6 .before .before in
+    let c10 = c8 .before .before in
+    let c12 = c10 .before .before in
+    let c14 = c12 .before .before in
+    let c16 = c14 .before .before in
+    let c18 = c16 .before .before in
+    let c20 = c18 .before .before in
+    let c22 = c20 .before .before in
+    let c23 = c22 .before in
+    let c25 = c23 .before .before in
+    let z = new-at (c23 .new .ensures) in
+    let f0 = u32-took _ _ _ (c22 .next-u32 .ensures) (c20 .t .given .1) in
+    let f1 = u32-took _ _ _ (c18 .next-u322 .ensures) (c16 .t2 .given .1) in
+    let f2 = u32-took _ _ _ (c14 .next-u323 .ensures) (c12 .t3 .given .1) in
+    let f3 = u32-took _ _ _ (c10 .next-u324 .ensures) (c8 .t4 .given .1) in
+    let f4 = u32-took _ _ _ (c4 .next-u325 .ensures) (c .before .before .t5 .given .1) in
+    let n0 = number-there {at = c25 .args .at} f0 (omega arith) in
+    let n1 = number-there {at = c25 .args .at + 4} f1 (omega arith) in
+    let n2 = number-there {at = c25 .args .at + 4 + 4} f2 (omega arith) in
+    let n3 = number-there {at = c25 .args .at + 4 + 4 + 4} f3 (omega arith) in
+    let n4 = number-there {at = c25 .args .at + 16} f4 (omega arith) in
+    let h : c12 .t3 .given .0 .0 .value + c8 .t4 .given .0 .0 .value ≤ length (c25 .args .file .now) = leb-true _ _
+    (sym (c6 .inside .ensures) ∙ c5 .if1 .taken) in
     member-whole fatArch _ _ (omega arith) (omega arith) (omega arith) (rw (← n0, ← n1, ← n2, ← n3, ← n4) (c .member-of .ensures))
+
+refuse-requires : tie.Need-refuse-requires
+refuse-requires c κs = search needs
 
 returns-7 : tie.Need-returns-7
 unfolding numbersAt
 returns-7 c =
-    let z = new-at (c .before .before .before .before .before .before .before .before .before .before .before .before .before .before .before .before .before .before .new .ensures) in
-    let f0 = u32-took _ _ _ (c .before .before .before .before .before .before .before .before .before .before .before .before .before .before .before .before .before .next-u32 .ensures) (c .before .before .before .before .before .before .before .before .before .before .before .before .before .before .before .t .given .1) in
-    let f1 = u32-took _ _ _ (c .before .before .before .before .before .before .before .before .before .before .before .before .before .next-u322 .ensures) (c .before .before .before .before .before .before .before .before .before .before .before .t2 .given .1) in
-    let f2 = u32-took _ _ _ (c .before .before .before .before .before .before .before .before .before .next-u323 .ensures) (c .before .before .before .before .before .before .before .t3 .given .1) in
-    let f3 = u32-took _ _ _ (c .before .before .before .before .before .next-u324 .ensures) (c .before .before .before .t4 .given .1) in
-    let n2 = number-there {at = c .before .before .before .before .before .before .before .before .before .before .before .before .before .before .before .before .before .before .before .before .args .at + 4 + 4} f2 (omega arith) in
-    let n3 = number-there {at = c .before .before .before .before .before .before .before .before .before .before .before .before .before .before .before .before .before .before .before .before .args .at + 4 + 4 + 4} f3 (omega arith) in
-    let h : length (c .before .before .before .before .before .before .before .before .before .before .before .before .before .before .before .before .before .before .before .before .args .file .now) < c .before .before .before .before .before .before .before .t3 .given .0 .0 .value + c .before .before .before .t4 .given .0 .0 .value = leb-false _ _ (sym (c .before .inside .ensures) ∙ c .if1 .left) in
-    member-past fatArch _ _ (omega arith) (omega arith) refl
+    let c4 = c .before .before .before .before in
+    let c6 = c4 .before .before in
+    let c8 = c6 .before .before in
+    let c10 = c8 .before .before in
+    let c12 = c10 .before .before in
+    let c14 = c12 .before .before in
+    let c16 = c14 .before .before in
+    let c18 = c16 .before .before in
+    let c19 = c18 .before in
+    let c21 = c19 .before .before in
+    let z = new-at (c19 .new .ensures) in
+    let f0 = u32-took _ _ _ (c18 .next-u32 .ensures) (c16 .t .given .1) in
+    let f1 = u32-took _ _ _ (c14 .next-u322 .ensures) (c12 .t2 .given .1) in
+    let f2 = u32-took _ _ _ (c10 .next-u323 .ensures) (c8 .t3 .given .1) in
+    let f3 = u32-took _ _ _ (c6 .next-u324 .ensures) (c4 .t4 .given .1) in
+    let n2 = number-there {at = c21 .args .at + 4 + 4} f2 (omega arith) in
+    let n3 = number-there {at = c21 .args .at + 4 + 4 + 4} f3 (omega arith) in
+    let h : length (c21 .args .file .now) < c8 .t3 .given .0 .0 .value + c4 .t4 .given .0 .0 .value = leb-false _ _
+    (sym (c .before .before .inside .ensures) ∙ c .before .if1 .left) in
+    member-past fatArch _ _ (omega arith) (omega arith) (c .refuse .ensures)
 
 pub read-spec : {M : Type 1} → statement M
 read-spec =
@@ -169,4 +229,5 @@ read-spec =
     returns-5
     member-of-requires
     returns-6
+    refuse-requires
     returns-7)

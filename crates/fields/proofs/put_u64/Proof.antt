@@ -27,8 +27,12 @@ same-length c = search needs
 
 returns : tie.Need-returns
 returns c =
-    let big = c .before .before .before .before .before .before .before .before .before .before .args .big in
-    put-joined big true (c .before .before .before .before .before .before .before .before .if1 .taken) 4 _ _ _ _ _ _ _ _ (omega arith) (omega arith) (omega arith) (omega arith) (c .before .before .before .before .before .before .put-u32 .ensures) (omega arith) (c .before .before .put-u322 .ensures)
+    let c6 = c .before .before .before .before .before .before in
+    let c8 = c6 .before .before in
+    let c10 = c8 .before .before in
+    let big = c10 .args .big in
+    put-joined big true (c8 .if1 .taken) 4 _ _ _ _ _ _ _ _ (omega arith) (omega arith) (omega arith) (omega arith) (c6 .put-u32 .ensures)
+    (omega arith) (c .before .before .put-u322 .ensures)
 
 put-u32-requires-3 : tie.Need-put-u32-requires-3
 put-u32-requires-3 c κs = search needs
@@ -44,8 +48,12 @@ same-length-2 c = search needs
 
 returns-2 : tie.Need-returns-2
 returns-2 c =
-    let big = c .before .before .before .before .before .before .before .before .before .before .args .big in
-    put-joined big false (c .before .before .before .before .before .before .before .before .if1 .left) 4 _ _ _ _ _ _ _ _ (omega arith) (omega arith) (omega arith) (omega arith) (c .before .before .before .before .before .before .put-u323 .ensures) (omega arith) (c .before .before .put-u324 .ensures)
+    let c6 = c .before .before .before .before .before .before in
+    let c8 = c6 .before .before in
+    let c10 = c8 .before .before in
+    let big = c10 .args .big in
+    put-joined big false (c8 .if1 .left) 4 _ _ _ _ _ _ _ _ (omega arith) (omega arith) (omega arith) (omega arith) (c6 .put-u323 .ensures)
+    (omega arith) (c .before .before .put-u324 .ensures)
 
 pub put-u64-spec : {M : Type 1} → statement M
 put-u64-spec =

@@ -1,9 +1,10 @@
--- `fields::read_u16` meets its contract: the two halves that were read join to the number; where one is missing, the field ends past the bytes.
+-- `fields::read_u16` meets its contract: the two halves that were read join to the number; where one is missing, the field ends past the
+-- bytes.
 -- Assumes nothing.
 use mathlib.Core.Path.{_∙_}
 use borrow.Author.Needs.{needs}
 use native.Mathlib.Omega.{arith}
-use Rattle.fields.proofs.Laws.{cut-short, field-value, field-cut, u8-found, u8-missed, halves-found, byte-order}
+use Rattle.fields.proofs.Laws.{field-value, field-cut, u8-found, u8-missed, halves-found, byte-order}
 use Rattle.fields.proofs.read_u16.Statement.{statement}
 use Rattle.fields.proofs.read_u16.Tie as tie
 
@@ -22,7 +23,7 @@ cut-requires c κs = search needs
 returns : tie.Need-returns
 returns c =
     let m = u8-missed _ _ (c .before .before .before .read-u8 .ensures) (c .before .enum-told .given .1) in
-    field-cut _ _ _ 2 _ _ (omega arith) (c .cut .ensures ∙ cut-short _)
+    field-cut _ _ _ 2 _ _ (omega arith) (c .cut .ensures)
 
 add-read-u8 : tie.Need-add-read-u8
 add-read-u8 c =
@@ -44,16 +45,20 @@ cut-requires-2 c κs = search needs
 returns-2 : tie.Need-returns-2
 returns-2 c =
     let m = u8-missed _ _ (c .before .before .before .read-u82 .ensures) (c .before .enum-told2 .given .1) in
-    field-cut _ _ _ 2 _ _ (omega arith) (c .cut2 .ensures ∙ cut-short _)
+    field-cut _ _ _ 2 _ _ (omega arith) (c .cut2 .ensures)
 
 u16-of-requires : tie.Need-u16-of-requires
 u16-of-requires c κs = search needs
 
 returns-3 : tie.Need-returns-3
 returns-3 c =
-    let f = byte-order (c .before .before .before .before .before .before .before .before .before .before .args .big) _ _ (u8-found _ _ (c .before .before .before .before .before .before .before .before .read-u8 .ensures) (c .before .before .before .before .before .before .first .given .1)) in
-    let g = byte-order (c .before .before .before .before .before .before .before .before .before .before .args .big) _ _ (u8-found _ _ (c .before .before .before .before .read-u82 .ensures) (c .before .before .second .given .1)) in
-    let j = halves-found (c .before .before .before .before .before .before .before .before .before .before .args .big) 1 _ _ _ f g (omega arith) (c .u16-of .ensures) in
+    let c4 = c .before .before .before .before in
+    let c6 = c4 .before .before in
+    let c8 = c6 .before .before in
+    let c10 = c8 .before .before in
+    let f = byte-order (c10 .args .big) _ _ (u8-found _ _ (c8 .read-u8 .ensures) (c6 .first .given .1)) in
+    let g = byte-order (c10 .args .big) _ _ (u8-found _ _ (c4 .read-u82 .ensures) (c .before .before .second .given .1)) in
+    let j = halves-found (c10 .args .big) 1 _ _ _ f g (omega arith) (c .u16-of .ensures) in
     field-value _ _ _ 2 _ _ (j .inside) (j .value)
 
 pub read-u16-spec : {M : Type 1} → statement M

@@ -1,9 +1,10 @@
--- `fields::read_u64` meets its contract: the two halves that were read join to the number; where one is missing, the field ends past the bytes.
+-- `fields::read_u64` meets its contract: the two halves that were read join to the number; where one is missing, the field ends past the
+-- bytes.
 -- Assumes nothing.
 use mathlib.Core.Path.{_∙_}
 use borrow.Author.Needs.{needs}
 use native.Mathlib.Omega.{arith}
-use Rattle.fields.proofs.Laws.{cut-short, field-value, field-cut, u32-found, u32-missed, halves-found}
+use Rattle.fields.proofs.Laws.{field-value, field-cut, u32-found, u32-missed, halves-found}
 use Rattle.fields.proofs.read_u64.Statement.{statement}
 use Rattle.fields.proofs.read_u64.Tie as tie
 
@@ -22,7 +23,7 @@ cut-requires c κs = search needs
 returns : tie.Need-returns
 returns c =
     let m = u32-missed _ _ _ (c .before .before .before .read-u32 .ensures) (c .before .enum-told .given .1) in
-    field-cut _ _ _ 8 _ _ (omega arith) (c .cut .ensures ∙ cut-short _)
+    field-cut _ _ _ 8 _ _ (omega arith) (c .cut .ensures)
 
 add-read-u32 : tie.Need-add-read-u32
 add-read-u32 c =
@@ -44,16 +45,20 @@ cut-requires-2 c κs = search needs
 returns-2 : tie.Need-returns-2
 returns-2 c =
     let m = u32-missed _ _ _ (c .before .before .before .read-u322 .ensures) (c .before .enum-told2 .given .1) in
-    field-cut _ _ _ 8 _ _ (omega arith) (c .cut2 .ensures ∙ cut-short _)
+    field-cut _ _ _ 8 _ _ (omega arith) (c .cut2 .ensures)
 
 u64-of-requires : tie.Need-u64-of-requires
 u64-of-requires c κs = search needs
 
 returns-3 : tie.Need-returns-3
 returns-3 c =
-    let f = u32-found _ _ _ (c .before .before .before .before .before .before .before .before .read-u32 .ensures) (c .before .before .before .before .before .before .first .given .1) in
-    let g = u32-found _ _ _ (c .before .before .before .before .read-u322 .ensures) (c .before .before .second .given .1) in
-    let j = halves-found (c .before .before .before .before .before .before .before .before .before .before .args .big) 4 _ _ _ f g (omega arith) (c .u64-of .ensures) in
+    let c4 = c .before .before .before .before in
+    let c6 = c4 .before .before in
+    let c8 = c6 .before .before in
+    let c10 = c8 .before .before in
+    let f = u32-found _ _ _ (c8 .read-u32 .ensures) (c6 .first .given .1) in
+    let g = u32-found _ _ _ (c4 .read-u322 .ensures) (c .before .before .second .given .1) in
+    let j = halves-found (c10 .args .big) 4 _ _ _ f g (omega arith) (c .u64-of .ensures) in
     field-value _ _ _ 8 _ _ (j .inside) (j .value)
 
 pub read-u64-spec : {M : Type 1} → statement M

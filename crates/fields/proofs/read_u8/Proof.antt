@@ -2,7 +2,7 @@
 -- Assumes nothing.
 use borrow.Author.Needs.{needs}
 use native.Mathlib.Omega.{arith}
-use Rattle.fields.proofs.Laws.{cut-short, field-value, field-cut}
+use Rattle.fields.proofs.Laws.{field-value, field-cut}
 use mathlib.Core.Path.{sym, _∙_}
 use Rattle.fields.proofs.Number.{number-one}
 use Rattle.fields.proofs.read_u8.Statement.{statement}
@@ -18,7 +18,7 @@ cut-requires : tie.Need-cut-requires
 cut-requires c κs = search needs
 
 returns-2 : tie.Need-returns-2
-returns-2 c = field-cut _ _ _ _ _ _ (omega arith) (c .cut .ensures ∙ cut-short _)
+returns-2 c = field-cut _ _ _ _ _ _ (omega arith) (c .cut .ensures)
 
 pub read-u8-spec : {M : Type 1} → statement M
 read-u8-spec = tie.close (tie.spec shared-slice-read-t6 returns cut-requires returns-2)

@@ -19,18 +19,20 @@ same-length c = search needs
 
 returns : tie.Need-returns
 returns c =
-    let h = leb-true _ _ (sym (c .before .before .before .before .before .fits2 .ensures) ∙ c .before .before .before .before .if1 .taken) in
+    let c4 = c .before .before .before .before in
+    let c5 = c4 .before in
+    let h = leb-true _ _ (sym (c5 .fits2 .ensures) ∙ c4 .if1 .taken) in
     store-done 8 _ _ _ (length-bytes _ 8 _) h (c .before .before .put-u64 .ensures)
 
-no-room-requires : tie.Need-no-room-requires
-no-room-requires c κs = search needs
+refuse-requires : tie.Need-refuse-requires
+refuse-requires c κs = search needs
 
 returns-2 : tie.Need-returns-2
 returns-2 c =
     let h = leb-false _ _ (sym (c .before .before .fits2 .ensures) ∙ c .before .if1 .left) in
-    store-refused 8 _ _ _ (length-bytes _ 8 _) h (c .no-room .ensures)
+    store-refused 8 _ _ _ (length-bytes _ 8 _) h (c .refuse .ensures)
 
 pub write-u64-spec : {M : Type 1} → statement M
 write-u64-spec =
     tie.close
-    (tie.spec fits-requires put-u64-requires same-length returns no-room-requires returns-2)
+    (tie.spec fits-requires put-u64-requires same-length returns refuse-requires returns-2)

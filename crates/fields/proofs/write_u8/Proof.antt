@@ -16,11 +16,11 @@ same-length c = search needs
 returns : tie.Need-returns
 returns c = store-done 1 _ _ _ (length-bytes _ 1 _) (omega arith) (c .before .before .put-u8 .ensures)
 
-no-room-requires : tie.Need-no-room-requires
-no-room-requires c κs = search needs
+refuse-requires : tie.Need-refuse-requires
+refuse-requires c κs = search needs
 
 returns-2 : tie.Need-returns-2
-returns-2 c = store-refused 1 _ _ _ (length-bytes _ 1 _) (omega arith) (c .no-room .ensures)
+returns-2 c = store-refused 1 _ _ _ (length-bytes _ 1 _) (omega arith) (c .refuse .ensures)
 
 pub write-u8-spec : {M : Type 1} → statement M
-write-u8-spec = tie.close (tie.spec put-u8-requires same-length returns no-room-requires returns-2)
+write-u8-spec = tie.close (tie.spec put-u8-requires same-length returns refuse-requires returns-2)

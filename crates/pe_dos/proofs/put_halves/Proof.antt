@@ -1,4 +1,5 @@
--- `pe_dos::put_halves` meets its contract. The invariant: the first `i` numbers are put, and nothing else. The measure is what is left of 30.
+-- `pe_dos::put_halves` meets its contract. The invariant: the first `i` numbers are put, and nothing else.
+-- The measure is what is left of 30.
 -- Assumes nothing.
 use native.Mathlib.Omega.{arith}
 use Prim.Native.Nat.{_+_, _*_, _-_, _≤_}
@@ -14,7 +15,8 @@ use Rattle.pe_dos.proofs.put_halves.Statement.{statement}
 use Rattle.pe_dos.proofs.put_halves.Tie as tie
 
 abbrev Inv-loop : tie.InvT-loop
-Inv-loop out₀ from n at₀ i₀ out at i = (i ≤ 30) × (at ≡ from + i * 2) × (length out ≡ length out₀) × (out ≡ put out₀ from (writeBy false (array i 2 []) n))
+Inv-loop out₀ from n at₀ i₀ out at i = (i ≤ 30) × (at ≡ from + i * 2) × (length out ≡ length out₀) ×
+    (out ≡ put out₀ from (writeBy false (array i 2 []) n))
 
 abbrev μ-loop : tie.MeasureT-loop
 μ-loop out₀ from n at₀ i₀ out at i = 30 - i
@@ -42,8 +44,11 @@ loop-less c = search needs
 
 loop-again : tie.Need-loop-again Inv-loop μ-loop
 loop-again c =
-    let v = c .before .before .before .before .before .loop .inv in
-    let w = run-wrote false 2 (c .before .before .before .before .before .before .before .args .t3) (c .before .before .before .before .before .before .before .args .out .now) _ _ (c .before .before .before .before .before .before .before .args .from) (c .before .before .before .before .before .loop .i) _ (v .2, v .3) (omega arith) (omega arith) (c .before .before .write-u16 .ensures .1) in
+    let c5 = c .before .before .before .before .before in
+    let c7 = c5 .before .before in
+    let v = c5 .loop .inv in
+    let w = run-wrote false 2 (c7 .args .t3) (c7 .args .out .now) _ _ (c7 .args .from) (c5 .loop .i) _ (v .2, v .3) (omega arith)
+    (omega arith) (c .before .before .write-u16 .ensures .1) in
     (omega arith, omega arith, w .0, w .1)
 
 same-length : tie.Need-same-length Inv-loop μ-loop

@@ -5,8 +5,11 @@ use borrow.Author.Needs.{needs}
 use Rattle.pe_header.proofs.open.Statement.{statement}
 use Rattle.pe_header.proofs.open.Tie as tie
 
+refuse-requires : tie.Need-refuse-requires
+refuse-requires c κs = search needs
+
 returns : tie.Need-returns
-returns c = open-long _ (c .if1 .taken)
+returns c = open-long _ (c .before .if1 .taken) (c .refuse .ensures)
 
 read-pointer-requires : tie.Need-read-pointer-requires
 read-pointer-requires c κs = search needs
@@ -18,7 +21,10 @@ enum-known-k : tie.Need-enum-known-k
 enum-known-k c = search needs
 
 returns-2 : tie.Need-returns-2
-returns-2 c = open-pointer _ (c .before .before .before .before .if1 .left) (c .before .before .before .read-pointer .ensures) (c .before .k .given .1)
+returns-2 c =
+    let c3 = c .before .before .before in
+    let c4 = c3 .before in
+    open-pointer _ (c4 .if1 .left) (c3 .read-pointer .ensures) (c .before .k .given .1)
 
 read-coff-requires : tie.Need-read-coff-requires
 read-coff-requires c κs = search needs
@@ -30,7 +36,12 @@ enum-known-k-2 : tie.Need-enum-known-k-2
 enum-known-k-2 c = search needs
 
 returns-3 : tie.Need-returns-3
-returns-3 c = open-coff _ (c .before .before .before .before .before .before .before .before .if1 .left) (c .before .before .before .before .before .before .before .read-pointer .ensures) (c .before .before .before .before .before .n .given .1) (c .before .before .before .read-coff .ensures) (c .before .k2 .given .1)
+returns-3 c =
+    let c3 = c .before .before .before in
+    let c5 = c3 .before .before in
+    let c7 = c5 .before .before in
+    let c8 = c7 .before in
+    open-coff _ (c8 .if1 .left) (c7 .read-pointer .ensures) (c5 .n .given .1) (c3 .read-coff .ensures) (c .before .k2 .given .1)
 
 cast-pe-pointer : tie.Need-cast-pe-pointer
 cast-pe-pointer c = search needs
@@ -54,7 +65,15 @@ enum-known-k-3 : tie.Need-enum-known-k-3
 enum-known-k-3 c = search needs
 
 returns-4 : tie.Need-returns-4
-returns-4 c = open-optional _ (c .before .before .before .before .before .before .before .before .before .before .before .before .before .if1 .left) (c .before .before .before .before .before .before .before .before .before .before .before .before .read-pointer .ensures) (c .before .before .before .before .before .before .before .before .before .before .n .given .1) (c .before .before .before .before .before .before .before .before .read-coff .ensures) (c .before .before .before .before .before .before .h .given .1) (c .before .before .before .read .ensures) (c .before .k3 .given .1)
+returns-4 c =
+    let c3 = c .before .before .before in
+    let c6 = c3 .before .before .before in
+    let c8 = c6 .before .before in
+    let c10 = c8 .before .before in
+    let c12 = c10 .before .before in
+    let c13 = c12 .before in
+    open-optional _ (c13 .if1 .left) (c12 .read-pointer .ensures) (c10 .n .given .1) (c8 .read-coff .ensures) (c6 .h .given .1)
+    (c3 .read .ensures) (c .before .k3 .given .1)
 
 add-section-table : tie.Need-add-section-table
 add-section-table c = search needs
@@ -72,15 +91,35 @@ enum-known-k-4 : tie.Need-enum-known-k-4
 enum-known-k-4 c = search needs
 
 returns-5 : tie.Need-returns-5
-returns-5 c = open-rows _ (c .before .before .before .before .before .before .before .before .before .before .before .before .before .before .before .before .before .before .if1 .left) (c .before .before .before .before .before .before .before .before .before .before .before .before .before .before .before .before .before .read-pointer .ensures) (c .before .before .before .before .before .before .before .before .before .before .before .before .before .before .before .n .given .1) (c .before .before .before .before .before .before .before .before .before .before .before .before .before .read-coff .ensures) (c .before .before .before .before .before .before .before .before .before .before .before .h .given .1) (c .before .before .before .before .before .before .before .before .read .ensures) (c .before .before .before .before .before .before .h2 .given .1) (c .before .before .before .read-rows .ensures) (c .before .k4 .given .1)
+returns-5 c =
+    let c3 = c .before .before .before in
+    let c6 = c3 .before .before .before in
+    let c8 = c6 .before .before in
+    let c11 = c8 .before .before .before in
+    let c13 = c11 .before .before in
+    let c15 = c13 .before .before in
+    let c17 = c15 .before .before in
+    let c18 = c17 .before in
+    open-rows _ (c18 .if1 .left) (c17 .read-pointer .ensures) (c15 .n .given .1) (c13 .read-coff .ensures) (c11 .h .given .1)
+    (c8 .read .ensures) (c6 .h2 .given .1) (c3 .read-rows .ensures) (c .before .k4 .given .1)
 
 returns-6 : tie.Need-returns-6
-returns-6 c = open-whole _ (c .before .before .before .before .before .before .before .before .before .before .before .before .before .before .before .before .before .if1 .left) (c .before .before .before .before .before .before .before .before .before .before .before .before .before .before .before .before .read-pointer .ensures) (c .before .before .before .before .before .before .before .before .before .before .before .before .before .before .n .given .1) (c .before .before .before .before .before .before .before .before .before .before .before .before .read-coff .ensures) (c .before .before .before .before .before .before .before .before .before .before .h .given .1) (c .before .before .before .before .before .before .before .read .ensures) (c .before .before .before .before .before .h2 .given .1) (c .before .before .read-rows .ensures) (c .enum-told .given .1)
+returns-6 c =
+    let c5 = c .before .before .before .before .before in
+    let c7 = c5 .before .before in
+    let c10 = c7 .before .before .before in
+    let c12 = c10 .before .before in
+    let c14 = c12 .before .before in
+    let c16 = c14 .before .before in
+    let c17 = c16 .before in
+    open-whole _ (c17 .if1 .left) (c16 .read-pointer .ensures) (c14 .n .given .1) (c12 .read-coff .ensures) (c10 .h .given .1)
+    (c7 .read .ensures) (c5 .h2 .given .1) (c .before .before .read-rows .ensures) (c .enum-told .given .1)
 
 pub open-spec : {M : Type 1} → statement M
 open-spec =
     tie.close
     (tie.spec
+    refuse-requires
     returns
     read-pointer-requires
     enum-known-n

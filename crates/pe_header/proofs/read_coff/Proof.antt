@@ -33,15 +33,24 @@ read-requires c κs = search needs
 
 returns-2 : tie.Need-returns-2
 returns-2 c =
-    let z = new-at (c .before .before .before .before .before .before .new .ensures) in
-    let f = u32-took _ _ _ (c .before .before .before .before .before .next-u32 .ensures) (c .before .before .before .t .given .1) in
+    let c3 = c .before .before .before in
+    let c5 = c3 .before .before in
+    let c6 = c5 .before in
+    let z = new-at (c6 .new .ensures) in
+    let f = u32-took _ _ _ (c5 .next-u32 .ensures) (c3 .t .given .1) in
     coff-there _ _ (omega arith) (rw z at (f .value)) (c .before .if1 .taken) (c .read .ensures)
+
+refuse-requires : tie.Need-refuse-requires
+refuse-requires c κs = search needs
 
 returns-3 : tie.Need-returns-3
 returns-3 c =
-    let z = new-at (c .before .before .before .before .before .new .ensures) in
-    let f = u32-took _ _ _ (c .before .before .before .before .next-u32 .ensures) (c .before .before .t .given .1) in
-    coff-wrong _ _ (omega arith) (rw z at (f .value)) (c .if1 .left)
+    let c3 = c .before .before .before in
+    let c5 = c3 .before .before in
+    let c6 = c5 .before in
+    let z = new-at (c6 .new .ensures) in
+    let f = u32-took _ _ _ (c5 .next-u32 .ensures) (c3 .t .given .1) in
+    coff-wrong _ _ (omega arith) (rw z at (f .value)) (c .before .if1 .left) (c .refuse .ensures)
 
 pub read-coff-spec : {M : Type 1} → statement M
 read-coff-spec =
@@ -55,4 +64,5 @@ read-coff-spec =
     add-read
     read-requires
     returns-2
+    refuse-requires
     returns-3)

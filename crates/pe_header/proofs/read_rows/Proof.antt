@@ -1,16 +1,16 @@
--- `pe_header::read_rows` meets its contract. The invariant: what is left of the rows answers as the whole. The measure is the number of rows left.
+-- `pe_header::read_rows` meets its contract. The invariant: what is left of the rows answers as the whole.
+-- The measure is the number of rows left.
 -- Assumes nothing.
 use native.Mathlib.Omega.{arith}
 use mathlib.Core.Path.{_≡_, refl, sym, _∙_}
 use borrow.Author.Needs.{needs}
 use Rattle.pe_section.proofs.Laws.{row-whole}
-use Rattle.pe_header.specs.Header.{rowsAt}
-use Rattle.pe_header.proofs.Laws.{rows-none, rows-missed, rows-on}
+use Rattle.pe_header.proofs.Laws.{checkRows, rows-none, rows-missed, rows-on}
 use Rattle.pe_header.proofs.read_rows.Statement.{statement}
 use Rattle.pe_header.proofs.read_rows.Tie as tie
 
 abbrev Inv-loop : tie.InvT-loop
-Inv-loop file table count left₀ at₀ left at = rowsAt count file table ≡ rowsAt left file at
+Inv-loop file table count left₀ at₀ left at = checkRows count file table ≡ checkRows left file at
 
 abbrev μ-loop : tie.MeasureT-loop
 μ-loop file table count left₀ at₀ left at = left
@@ -28,7 +28,11 @@ enum-known-k : tie.Need-enum-known-k Inv-loop μ-loop
 enum-known-k c = search needs
 
 returns : tie.Need-returns Inv-loop μ-loop
-returns c = rows-missed _ _ _ (c .before .before .before .before .loop-test .taken) (c .before .before .before .read .ensures) (c .before .k .given .1) ∙ sym (c .before .before .before .before .before .loop .inv)
+returns c =
+    let c3 = c .before .before .before in
+    let c4 = c3 .before in
+    let c5 = c4 .before in
+    rows-missed _ _ _ (c4 .loop-test .taken) (c3 .read .ensures) (c .before .k .given .1) ∙ sym (c5 .loop .inv)
 
 sub-left : tie.Need-sub-left Inv-loop μ-loop
 sub-left c = search needs
@@ -42,7 +46,10 @@ loop-less : tie.Need-loop-less Inv-loop μ-loop
 loop-less c = search needs
 
 loop-again : tie.Need-loop-again Inv-loop μ-loop
-loop-again c = c .before .before .before .before .loop .inv ∙ rows-on _ _ _ (c .before .before .before .loop-test .taken) (c .before .before .read .ensures) (c .enum-told .given .1)
+loop-again c =
+    let c3 = c .before .before .before in
+    let c4 = c3 .before in
+    c4 .loop .inv ∙ rows-on _ _ _ (c3 .loop-test .taken) (c .before .before .read .ensures) (c .enum-told .given .1)
 
 returns-2 : tie.Need-returns-2 Inv-loop μ-loop
 returns-2 c = rows-none _ _ _ (omega arith) ∙ sym (c .before .loop .inv)

@@ -1,4 +1,5 @@
--- `pe_mapping::first` meets its contract. The invariant: what is left of the search answers as the whole. The measure is the number of rows left.
+-- `pe_mapping::first` meets its contract. The invariant: what is left of the search answers as the whole.
+-- The measure is the number of rows left.
 -- Assumes nothing.
 use native.Mathlib.Omega.{arith}
 use mathlib.Core.Path.{_≡_, refl, sym, _∙_}
@@ -10,7 +11,8 @@ use Rattle.pe_mapping.proofs.first.Statement.{statement}
 use Rattle.pe_mapping.proofs.first.Tie as tie
 
 abbrev Inv-loop : tie.InvT-loop
-Inv-loop file table count alignment address left₀ at₀ left at = firstOf count file table alignment address ≡ firstOf left file at alignment address
+Inv-loop file table count alignment address left₀ at₀ left at =
+    firstOf count file table alignment address ≡ firstOf left file at alignment address
 
 abbrev μ-loop : tie.MeasureT-loop
 μ-loop file table count alignment address left₀ at₀ left at = left
@@ -35,41 +37,69 @@ cast-pointer c = search needs
 
 sub-t15 : tie.Need-sub-t15 Inv-loop μ-loop
 sub-t15 c =
-    let t = holds-told _ _ _ (sym (c .before .before .before .inside .ensures) ∙ c .before .before .if1 .taken) in
-    let m = readable-most (c .before .before .before .before .before .before .before .before .before .before .before .args .alignment) (c .before .before .before .before .before .h .given .0 .0) in
+    let c3 = c .before .before .before in
+    let c5 = c3 .before .before in
+    let c11 = c5 .before .before .before .before .before .before in
+    let t = holds-told _ _ _ (sym (c3 .inside .ensures) ∙ c .before .before .if1 .taken) in
+    let m = readable-most (c11 .args .alignment) (c5 .h .given .0 .0) in
     omega arith
 
 add-t16 : tie.Need-add-t16 Inv-loop μ-loop
 add-t16 c =
-    let t = holds-told _ _ _ (sym (c .before .before .before .inside .ensures) ∙ c .before .before .if1 .taken) in
-    let m = readable-most (c .before .before .before .before .before .before .before .before .before .before .before .args .alignment) (c .before .before .before .before .before .h .given .0 .0) in
-    omega arith
+    let c3 = c .before .before .before in
+    let c5 = c3 .before .before in
+    let c11 = c5 .before .before .before .before .before .before in
+    let t = holds-told _ _ _ (sym (c3 .inside .ensures) ∙ c .before .before .if1 .taken) in
+    let m = readable-most (c11 .args .alignment) (c5 .h .given .0 .0) in
+    omega (arith, c .struct-known2 .given, m, t .below)
 
 returns : tie.Need-returns Inv-loop μ-loop
-returns c = first-holds _ _ _ _ _ (c .before .before .before .before .before .before .before .before .loop-test .taken) (c .before .before .before .before .before .before .before .read .ensures) (c .before .before .before .before .before .h .given .1) (sym (c .before .before .if1 .taken) ∙ c .before .before .before .inside .ensures) ∙ sym (c .before .before .before .before .before .before .before .before .before .loop .inv)
+returns c =
+    let c3 = c .before .before .before in
+    let c5 = c3 .before .before in
+    let c7 = c5 .before .before in
+    let c8 = c7 .before in
+    let c9 = c8 .before in
+    first-holds _ _ _ _ _ (c8 .loop-test .taken) (c7 .read .ensures) (c5 .h .given .1)
+    (sym (c .before .before .if1 .taken) ∙ c3 .inside .ensures) ∙ sym (c9 .loop .inv)
 
 enum-known-k : tie.Need-enum-known-k Inv-loop μ-loop
 enum-known-k c = search needs
 
 returns-2 : tie.Need-returns-2 Inv-loop μ-loop
-returns-2 c = first-cut _ _ _ _ _ (c .before .before .before .before .loop-test .taken) (c .before .before .before .read .ensures) (c .before .k .given .1) ∙ sym (c .before .before .before .before .before .loop .inv)
+returns-2 c =
+    let c3 = c .before .before .before in
+    let c4 = c3 .before in
+    let c5 = c4 .before in
+    first-cut _ _ _ _ _ (c4 .loop-test .taken) (c3 .read .ensures) (c .before .k .given .1) ∙ sym (c5 .loop .inv)
 
 sub-left : tie.Need-sub-left Inv-loop μ-loop
 sub-left c = search needs
 
 add-at : tie.Need-add-at Inv-loop μ-loop
 add-at c =
-    let w = row-whole _ _ (c .before .before .before .before .before .read .ensures) (c .before .before .before .h .given .1) in
+    let c3 = c .before .before .before in
+    let c5 = c3 .before .before in
+    let w = row-whole _ _ (c5 .read .ensures) (c3 .h .given .1) in
     omega arith
 
 loop-less : tie.Need-loop-less Inv-loop μ-loop
 loop-less c = search needs
 
 loop-again : tie.Need-loop-again Inv-loop μ-loop
-loop-again c = c .before .before .before .before .before .before .before .loop .inv ∙ first-on _ _ _ _ _ (c .before .before .before .before .before .before .loop-test .taken) (c .before .before .before .before .before .read .ensures) (c .before .before .before .h .given .1) (sym (c .if1 .left) ∙ c .before .inside .ensures)
+loop-again c =
+    let c3 = c .before .before .before in
+    let c5 = c3 .before .before in
+    let c6 = c5 .before in
+    let c7 = c6 .before in
+    c7 .loop .inv ∙ first-on _ _ _ _ _ (c6 .loop-test .taken) (c5 .read .ensures) (c3 .h .given .1)
+    (sym (c .if1 .left) ∙ c .before .inside .ensures)
+
+refuse-requires : tie.Need-refuse-requires Inv-loop μ-loop
+refuse-requires c κs = search needs
 
 returns-3 : tie.Need-returns-3 Inv-loop μ-loop
-returns-3 c = first-none _ _ _ _ _ (omega arith) ∙ sym (c .before .loop .inv)
+returns-3 c = first-none _ _ _ _ _ (omega arith) (c .refuse .ensures) ∙ sym (c .before .before .loop .inv)
 
 pub first-spec : {M : Type 1} → statement M
 first-spec =
@@ -92,4 +122,5 @@ first-spec =
     add-at
     loop-less
     loop-again
+    refuse-requires
     returns-3)

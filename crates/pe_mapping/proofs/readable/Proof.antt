@@ -1,4 +1,5 @@
--- `pe_mapping::readable` meets its contract: each sum fits, since the numbers of a row have 32 bits, and at each `return` the tests tell which case it is.
+-- `pe_mapping::readable` meets its contract: each sum fits, since the numbers of a row have 32 bits, and at each `return` the tests tell
+-- which case it is.
 -- Assumes nothing.
 use mathlib.Core.Path.{refl}
 use native.Mathlib.Omega.{arith}
@@ -31,7 +32,8 @@ mul-least c = search needs
 
 sub-least : tie.Need-sub-least
 sub-least c =
-    let u = up-least (c .before .before .before .before .before .args .alignment) (c .before .before .before .before .before .args .h .«pointer_to_raw_data» + c .before .before .before .before .before .args .h .«size_of_raw_data») (omega arith) in
+    let c5 = c .before .before .before .before .before in
+    let u = up-least (c5 .args .alignment) (c5 .args .h .«pointer_to_raw_data» + c5 .args .h .«size_of_raw_data») (omega arith) in
     omega arith
 
 round-up-requires-2 : tie.Need-round-up-requires-2
@@ -41,7 +43,11 @@ least-requires : tie.Need-least-requires
 least-requires c κs = search needs
 
 returns-2 : tie.Need-returns-2
-returns-2 c = readable-in-file _ _ (c .before .before .before .before .if1 .left) (c .if2 .taken) (rw (c .before .least .ensures, c .before .before .round-up2 .ensures, c .before .before .before .round-up .ensures) refl)
+returns-2 c =
+    let c3 = c .before .before .before in
+    let c4 = c3 .before in
+    readable-in-file _ _ (c4 .if1 .left) (c .if2 .taken)
+    (rw (c .before .least .ensures, c .before .before .round-up2 .ensures, c3 .round-up .ensures) refl)
 
 round-up-requires-3 : tie.Need-round-up-requires-3
 round-up-requires-3 c κs = search needs
@@ -50,7 +56,13 @@ least-requires-2 : tie.Need-least-requires-2
 least-requires-2 c κs = search needs
 
 returns-3 : tie.Need-returns-3
-returns-3 c = readable-least _ _ (c .before .before .before .before .before .before .if1 .left) (c .before .before .if2 .left) (rw (c .least2 .ensures, c .before .round-up3 .ensures, c .before .before .before .least .ensures, c .before .before .before .before .round-up2 .ensures, c .before .before .before .before .before .round-up .ensures) refl)
+returns-3 c =
+    let c3 = c .before .before .before in
+    let c4 = c3 .before in
+    let c5 = c4 .before in
+    let c6 = c5 .before in
+    readable-least _ _ (c6 .if1 .left) (c .before .before .if2 .left)
+    (rw (c .least2 .ensures, c .before .round-up3 .ensures, c3 .least .ensures, c4 .round-up2 .ensures, c5 .round-up .ensures) refl)
 
 pub readable-spec : {M : Type 1} → statement M
 readable-spec =

@@ -12,8 +12,11 @@ use Rattle.pe_optional.proofs.read_needed.Tie as tie
 sub-if1 : tie.Need-sub-if1
 sub-if1 c = search needs
 
+beyond-requires : tie.Need-beyond-requires
+beyond-requires c κs = search needs
+
 returns : tie.Need-returns
-returns c = needed-past word.Refused _ _ _ _ word.Value (omega arith)
+returns c = needed-past word.Refused _ _ _ _ word.Value (omega arith) (omega arith) (c .beyond .ensures)
 
 add-new : tie.Need-add-new
 add-new c = search needs
@@ -41,21 +44,33 @@ fits-requires c κs = search needs
 
 returns-3 : tie.Need-returns-3
 returns-3 c =
-    let z = new-at (c .before .before .before .before .before .before .new .ensures) in
-    let f = u32-took _ _ _ (c .before .before .before .before .before .next-u32 .ensures) (c .before .before .before .t .given .1) in
-    needed-value word.Refused _ _ _ _ word.Value (omega arith) (sym (c .before .fits2 .ensures) ∙ c .if2 .taken) (ap word.Value (rw z at (f .value)))
+    let c3 = c .before .before .before in
+    let c5 = c3 .before .before in
+    let c6 = c5 .before in
+    let z = new-at (c6 .new .ensures) in
+    let f = u32-took _ _ _ (c5 .next-u32 .ensures) (c3 .t .given .1) in
+    needed-value word.Refused _ _ _ _ word.Value (omega arith) (sym (c .before .fits2 .ensures) ∙ c .if2 .taken)
+    (ap word.Value (rw z at (f .value)))
+
+refuse-requires : tie.Need-refuse-requires
+refuse-requires c κs = search needs
 
 returns-4 : tie.Need-returns-4
 returns-4 c =
-    let z = new-at (c .before .before .before .before .before .before .new .ensures) in
-    let f = u32-took _ _ _ (c .before .before .before .before .before .next-u32 .ensures) (c .before .before .before .t .given .1) in
-    needed-outside word.Refused _ _ _ _ word.Value (omega arith) (sym (c .before .fits2 .ensures) ∙ c .if2 .left)
+    let c4 = c .before .before .before .before in
+    let c6 = c4 .before .before in
+    let c7 = c6 .before in
+    let z = new-at (c7 .new .ensures) in
+    let f = u32-took _ _ _ (c6 .next-u32 .ensures) (c4 .t .given .1) in
+    needed-outside word.Refused _ _ _ _ word.Value (omega arith) (sym (c .before .before .fits2 .ensures) ∙ c .before .if2 .left)
+    (c .refuse .ensures)
 
 pub read-needed-spec : {M : Type 1} → statement M
 read-needed-spec =
     tie.close
     (tie.spec
     sub-if1
+    beyond-requires
     returns
     add-new
     new-requires
@@ -65,4 +80,5 @@ read-needed-spec =
     returns-2
     fits-requires
     returns-3
+    refuse-requires
     returns-4)

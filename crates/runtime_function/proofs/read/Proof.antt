@@ -1,4 +1,5 @@
--- `runtime_function::read` meets its contract: each field is taken where the one before it ends, and a field that is missing refuses as the layout does.
+-- `runtime_function::read` meets its contract: each field is taken where the one before it ends, and a field that is missing refuses as the
+-- layout does.
 -- Assumes nothing.
 use native.Mathlib.Omega.{arith}
 use mathlib.Core.Bool.{false}
@@ -43,9 +44,13 @@ enum-known-k-2 c = search needs
 returns-2 : tie.Need-returns-2
 unfolding readOf
 returns-2 c =
-    let z = new-at (c .before .before .before .before .before .before .before .before .new .ensures) in
-    let f0 = u32-took _ _ _ (c .before .before .before .before .before .before .before .next-u32 .ensures) (c .before .before .before .before .before .t .given .1) in
-    let m = u32-cut _ _ _ (c .before .before .before .next-u322 .ensures) (c .before .k2 .given .1) in
+    let c3 = c .before .before .before in
+    let c5 = c3 .before .before in
+    let c7 = c5 .before .before in
+    let c8 = c7 .before in
+    let z = new-at (c8 .new .ensures) in
+    let f0 = u32-took _ _ _ (c7 .next-u32 .ensures) (c5 .t .given .1) in
+    let m = u32-cut _ _ _ (c3 .next-u322 .ensures) (c .before .k2 .given .1) in
     missed-at false runtimeFunction 1 (omega arith) _ Refused _ _ _ m (omega arith) (λ i. omega arith)
 
 next-u32-requires-3 : tie.Need-next-u32-requires-3
@@ -60,19 +65,31 @@ enum-known-k-3 c = search needs
 returns-3 : tie.Need-returns-3
 unfolding readOf
 returns-3 c =
-    let z = new-at (c .before .before .before .before .before .before .before .before .before .before .before .before .new .ensures) in
-    let f0 = u32-took _ _ _ (c .before .before .before .before .before .before .before .before .before .before .before .next-u32 .ensures) (c .before .before .before .before .before .before .before .before .before .t .given .1) in
-    let f1 = u32-took _ _ _ (c .before .before .before .before .before .before .before .next-u322 .ensures) (c .before .before .before .before .before .t2 .given .1) in
-    let m = u32-cut _ _ _ (c .before .before .before .next-u323 .ensures) (c .before .k3 .given .1) in
+    let c3 = c .before .before .before in
+    let c5 = c3 .before .before in
+    let c7 = c5 .before .before in
+    let c9 = c7 .before .before in
+    let c11 = c9 .before .before in
+    let c12 = c11 .before in
+    let z = new-at (c12 .new .ensures) in
+    let f0 = u32-took _ _ _ (c11 .next-u32 .ensures) (c9 .t .given .1) in
+    let f1 = u32-took _ _ _ (c7 .next-u322 .ensures) (c5 .t2 .given .1) in
+    let m = u32-cut _ _ _ (c3 .next-u323 .ensures) (c .before .k3 .given .1) in
     missed-at false runtimeFunction 2 (omega arith) _ Refused _ _ _ m (omega arith) (λ i. omega arith)
 
 returns-4 : tie.Need-returns-4
 unfolding readOf numbersAt
 returns-4 c =
-    let z = new-at (c .before .before .before .before .before .before .before .before .before .before .before .before .new .ensures) in
-    let f0 = u32-took _ _ _ (c .before .before .before .before .before .before .before .before .before .before .before .next-u32 .ensures) (c .before .before .before .before .before .before .before .before .before .t .given .1) in
-    let f1 = u32-took _ _ _ (c .before .before .before .before .before .before .before .next-u322 .ensures) (c .before .before .before .before .before .t2 .given .1) in
-    let f2 = u32-took _ _ _ (c .before .before .before .next-u323 .ensures) (c .before .t3 .given .1) in
+    let c3 = c .before .before .before in
+    let c5 = c3 .before .before in
+    let c7 = c5 .before .before in
+    let c9 = c7 .before .before in
+    let c11 = c9 .before .before in
+    let c12 = c11 .before in
+    let z = new-at (c12 .new .ensures) in
+    let f0 = u32-took _ _ _ (c11 .next-u32 .ensures) (c9 .t .given .1) in
+    let f1 = u32-took _ _ _ (c7 .next-u322 .ensures) (c5 .t2 .given .1) in
+    let f2 = u32-took _ _ _ (c3 .next-u323 .ensures) (c .before .t3 .given .1) in
     full-is false _ _ _ runtimeFunction _ (omega arith) (rw (f0 .value, f1 .value, f2 .value, f1 .past, f0 .past, z) refl)
 
 pub read-spec : {M : Type 1} → statement M

@@ -20,7 +20,10 @@ write-u32-requires c κs = search needs
 
 add-write-u32 : tie.Need-add-write-u32
 add-write-u32 c =
-    let h : c .before .before .before .before .before .before .before .before .args .at + 12 ≤ length (c .before .before .before .before .before .before .before .before .args .out .now) = leb-true _ _ (sym (c .before .before .before .before .before .before .fits2 .ensures) ∙ c .before .before .before .before .before .if1 .taken) in
+    let c5 = c .before .before .before .before .before in
+    let c6 = c5 .before in
+    let c8 = c6 .before .before in
+    let h : c8 .args .at + 12 ≤ length (c8 .args .out .now) = leb-true _ _ (sym (c6 .fits2 .ensures) ∙ c5 .if1 .taken) in
     omega arith
 
 write-u32-requires-2 : tie.Need-write-u32-requires-2
@@ -28,7 +31,10 @@ write-u32-requires-2 c κs = search needs
 
 add-write-u32-2 : tie.Need-add-write-u32-2
 add-write-u32-2 c =
-    let h : c .before .before .before .before .before .before .before .before .before .before .before .before .args .at + 12 ≤ length (c .before .before .before .before .before .before .before .before .before .before .before .before .args .out .now) = leb-true _ _ (sym (c .before .before .before .before .before .before .before .before .before .before .fits2 .ensures) ∙ c .before .before .before .before .before .before .before .before .before .if1 .taken) in
+    let c9 = c .before .before .before .before .before .before .before .before .before in
+    let c10 = c9 .before in
+    let c12 = c10 .before .before in
+    let h : c12 .args .at + 12 ≤ length (c12 .args .out .now) = leb-true _ _ (sym (c10 .fits2 .ensures) ∙ c9 .if1 .taken) in
     omega arith
 
 write-u32-requires-3 : tie.Need-write-u32-requires-3
@@ -39,19 +45,30 @@ same-length c = search needs
 
 returns : tie.Need-returns
 returns c =
-    let a = c .before .before .before .before .before .before .before .before .before .before .before .before .before .before .before .args in
+    let c6 = c .before .before .before .before .before .before in
+    let c10 = c6 .before .before .before .before in
+    let c12 = c10 .before .before in
+    let c13 = c12 .before in
+    let c15 = c13 .before .before in
+    let a = c15 .args in
     let o = false in
-    let h : c .before .before .before .before .before .before .before .before .before .before .before .before .before .before .before .args .at + 12 ≤ length (c .before .before .before .before .before .before .before .before .before .before .before .before .before .before .before .args .out .now) = leb-true _ _ (sym (c .before .before .before .before .before .before .before .before .before .before .before .before .before .fits2 .ensures) ∙ c .before .before .before .before .before .before .before .before .before .before .before .before .if1 .taken) in
+    let h : c15 .args .at + 12 ≤ length (c15 .args .out .now) = leb-true _ _ (sym (c13 .fits2 .ensures) ∙ c12 .if1 .taken) in
     let p0 = put-none o (numbersOf (a .e)) (a .out .now) (a .at) (omega arith) in
-    let p1 = stored-at o runtimeFunction 0 (omega arith) _ _ _ _ _ _ p0 (omega arith) (omega arith) (c .before .before .before .before .before .before .before .before .before .before .write-u32 .ensures .1) in
-    let p2 = stored-at o runtimeFunction 1 (omega arith) _ _ _ _ _ _ p1 (omega arith) (omega arith) (c .before .before .before .before .before .before .write-u322 .ensures .1) in
-    let p3 = stored-at o runtimeFunction 2 (omega arith) _ _ _ _ _ _ p2 (omega arith) (omega arith) (c .before .before .write-u323 .ensures .1) in
+    let p1 = stored-at o runtimeFunction 0 (omega arith) _ _ _ _ _ _ p0 (omega arith) (omega arith) (c10 .write-u32 .ensures .1) in
+    let p2 = stored-at o runtimeFunction 1 (omega arith) _ _ _ _ _ _ p1 (omega arith) (omega arith) (c6 .write-u322 .ensures .1) in
+    let p3 = stored-at o runtimeFunction 2 (omega arith) _ _ _ _ _ _ p2 (omega arith) (omega arith)
+    (c .before .before .write-u323 .ensures .1) in
     record-done o runtimeFunction _ _ _ h p3
+
+refuse-requires : tie.Need-refuse-requires
+refuse-requires c κs = search needs
 
 returns-2 : tie.Need-returns-2
 returns-2 c =
-    let h : length (c .before .before .before .args .out .now) < c .before .before .before .args .at + 12 = leb-false _ _ (sym (c .before .fits2 .ensures) ∙ c .if1 .left) in
-    record-refused false runtimeFunction _ _ _ h refl
+    let c4 = c .before .before .before .before in
+    let h : length (c4 .args .out .now) < c4 .args .at + 12 = leb-false _ _ (sym (c .before .before .fits2 .ensures) ∙ c .before .if1 .left)
+    in
+    record-refused false runtimeFunction _ _ _ h (c .refuse .ensures)
 
 pub write-spec : {M : Type 1} → statement M
 write-spec =
@@ -65,4 +82,5 @@ write-spec =
     write-u32-requires-3
     same-length
     returns
+    refuse-requires
     returns-2)

@@ -1,9 +1,8 @@
 -- `runtime_lookup::check_and_find` meets its contract: the check refuses, or the lookup answers, without its count.
 -- Assumes nothing.
 use mathlib.Core.Path.{sym, ap, _∙_}
-use Rattle.runtime_table.proofs.Laws.{checked-on, checked-refused}
-use Rattle.runtime_lookup.specs.Lookup.{checkAndFindOf, uncounted}
-use Rattle.runtime_lookup.specs.declared.CheckAndFind.the-variants.{Refused}
+use Rattle.runtime_lookup.specs.Lookup.{uncounted}
+use Rattle.runtime_lookup.proofs.Laws.{checked-on, checked-refused}
 use borrow.Author.Needs.{needs}
 use Rattle.runtime_lookup.proofs.check_and_find.Statement.{statement}
 use Rattle.runtime_lookup.proofs.check_and_find.Tie as tie
@@ -27,16 +26,21 @@ enum-known-k-2 : tie.Need-enum-known-k-2
 enum-known-k-2 c = search needs
 
 returns : tie.Need-returns
-unfolding checkAndFindOf
-returns c = checked-on Refused _ _ _ _ (c .before .before .before .before .before .before .check .ensures) (c .before .before .before .before .enum-told .given .1) (ap uncounted (sym (c .before .holder .given .1)) ∙ (c .before .before .before .find-function .ensures .0))
+returns c =
+    let c3 = c .before .before .before in
+    let c4 = c3 .before in
+    checked-on _ _ _ (c4 .before .before .check .ensures) (c4 .enum-told .given .1)
+    (ap uncounted (sym (c .before .holder .given .1)) ∙ c3 .find-function .ensures .0)
 
 returns-2 : tie.Need-returns-2
-unfolding checkAndFindOf
-returns-2 c = checked-on Refused _ _ _ _ (c .before .before .before .before .before .before .check .ensures) (c .before .before .before .before .enum-told .given .1) (ap uncounted (sym (c .before .k .given .1)) ∙ (c .before .before .before .find-function .ensures .0))
+returns-2 c =
+    let c3 = c .before .before .before in
+    let c4 = c3 .before in
+    checked-on _ _ _ (c4 .before .before .check .ensures) (c4 .enum-told .given .1)
+    (ap uncounted (sym (c .before .k .given .1)) ∙ c3 .find-function .ensures .0)
 
 returns-3 : tie.Need-returns-3
-unfolding checkAndFindOf
-returns-3 c = checked-refused Refused _ _ _ _ (c .before .before .before .check .ensures) (c .before .k2 .given .1)
+returns-3 c = checked-refused _ _ _ (c .before .before .before .check .ensures) (c .before .k2 .given .1)
 
 pub check-and-find-spec : {M : Type 1} → statement M
 check-and-find-spec =

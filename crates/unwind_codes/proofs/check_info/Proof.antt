@@ -1,4 +1,5 @@
--- `unwind_codes::check_info` meets its contract: at each `return`, what the parts of the info answered are the premises of a law of `wholeAt`.
+-- `unwind_codes::check_info` meets its contract: at each `return`, what the parts of the info answered are the premises of a law of
+-- `wholeInfoAt`.
 -- Assumes nothing.
 use native.Mathlib.Omega.{arith}
 use mathlib.Core.Path.{sym, ap, _∙_}
@@ -9,8 +10,11 @@ use borrow.Author.Needs.{needs}
 use Rattle.unwind_codes.proofs.check_info.Statement.{statement}
 use Rattle.unwind_codes.proofs.check_info.Tie as tie
 
+refuse-requires : tie.Need-refuse-requires
+refuse-requires c κs = search needs
+
 returns : tie.Need-returns
-returns c = ap checkedOf (whole-long _ _ (c .if1 .taken))
+returns c = ap checkedOf (whole-long _ _ (c .before .if1 .taken) (c .refuse .ensures))
 
 read-header-requires : tie.Need-read-header-requires
 read-header-requires c κs = search needs
@@ -33,9 +37,6 @@ read-follows-requires c κs = search needs
 enum-known-follows : tie.Need-enum-known-follows
 enum-known-follows c = search needs
 
-followed-by-requires : tie.Need-followed-by-requires
-followed-by-requires c κs = search needs
-
 enum-known-k : tie.Need-enum-known-k
 enum-known-k c = search needs
 
@@ -47,24 +48,50 @@ enum-known-k-3 c = search needs
 
 returns-2 : tie.Need-returns-2
 returns-2 c =
-    let n = count-told (codesOf (c .before .before .before .before .before .before .before .before .before .before .before .before .before .before .before .args .file .now) (c .before .before .before .before .before .before .before .before .before .before .h .given .0 .0)) (c .before .before .before .before .before .before .before .before .count .ensures) (c .before .before .before .before .before .before .codes .given .1) in
-    checked-is (c .followed-by .ensures) (n .1) (whole-is _ _ (c .before .before .before .before .before .before .before .before .before .before .before .before .before .if1 .left) (c .before .before .before .before .before .before .before .before .before .before .before .before .read-header .ensures) (c .before .before .before .before .before .before .before .before .before .before .h .given .1) (n .0) (c .before .before .before .before .read-follows .ensures) (c .before .before .follows .given .1))
+    let c3 = c .before .before .before in
+    let c5 = c3 .before .before in
+    let c7 = c5 .before .before in
+    let c9 = c7 .before .before in
+    let c11 = c9 .before .before in
+    let c14 = c11 .before .before .before in
+    let n = count-told (codesOf (c14 .args .file .now) (c9 .h .given .0 .0)) (c7 .count .ensures) (c5 .codes .given .1) in
+    checked-is (n .1)
+    (whole-is _ _ (c11 .before .if1 .left) (c11 .read-header .ensures) (c9 .h .given .1) (n .0) (c3 .read-follows .ensures)
+    (c .before .follows .given .1))
 
 returns-3 : tie.Need-returns-3
 returns-3 c =
-    let n = count-told (codesOf (c .before .before .before .before .before .before .before .before .before .before .before .before .before .before .args .file .now) (c .before .before .before .before .before .before .before .before .before .h .given .0 .0)) (c .before .before .before .before .before .before .before .count .ensures) (c .before .before .before .before .before .codes .given .1) in
-    ap checkedOf (whole-follows _ _ (c .before .before .before .before .before .before .before .before .before .before .before .before .if1 .left) (c .before .before .before .before .before .before .before .before .before .before .before .read-header .ensures) (c .before .before .before .before .before .before .before .before .before .h .given .1) (n .0) (c .before .before .before .read-follows .ensures) (c .before .k .given .1))
+    let c3 = c .before .before .before in
+    let c5 = c3 .before .before in
+    let c7 = c5 .before .before in
+    let c9 = c7 .before .before in
+    let c11 = c9 .before .before in
+    let c14 = c11 .before .before .before in
+    let n = count-told (codesOf (c14 .args .file .now) (c9 .h .given .0 .0)) (c7 .count .ensures) (c5 .codes .given .1) in
+    ap checkedOf
+    (whole-follows _ _ (c11 .before .if1 .left) (c11 .read-header .ensures) (c9 .h .given .1) (n .0) (c3 .read-follows .ensures)
+    (c .before .k .given .1))
 
 returns-4 : tie.Need-returns-4
-returns-4 c = ap checkedOf (whole-codes _ _ (c .before .before .before .before .before .before .before .before .if1 .left) (c .before .before .before .before .before .before .before .read-header .ensures) (c .before .before .before .before .before .h .given .1) (refusal-told (codesOf (c .before .before .before .before .before .before .before .before .before .before .args .file .now) (c .before .before .before .before .before .h .given .0 .0)) (c .before .before .before .count .ensures) (c .before .k2 .given .1)))
+returns-4 c =
+    let c3 = c .before .before .before in
+    let c3 = c3 in
+    let c5 = c3 .before .before in
+    let c7 = c5 .before .before in
+    let c10 = c7 .before .before .before in
+    let k = refusal-told (codesOf (c10 .args .file .now) (c5 .h .given .0 .0)) (c3 .count .ensures) (c .before .k2 .given .1) in
+    ap checkedOf (whole-codes _ _ (c7 .before .if1 .left) (c7 .read-header .ensures) (c5 .h .given .1) k)
 
 returns-5 : tie.Need-returns-5
-returns-5 c = ap checkedOf (whole-header _ _ (c .before .before .before .before .if1 .left) (c .before .before .before .read-header .ensures) (c .before .k3 .given .1))
+returns-5 c =
+    let c3 = c .before .before .before in
+    ap checkedOf (whole-header _ _ (c3 .before .if1 .left) (c3 .read-header .ensures) (c .before .k3 .given .1))
 
 pub check-info-spec : {M : Type 1} → statement M
 check-info-spec =
     tie.close
     (tie.spec
+    refuse-requires
     returns
     read-header-requires
     enum-known-h
@@ -72,7 +99,6 @@ check-info-spec =
     enum-known-codes
     read-follows-requires
     enum-known-follows
-    followed-by-requires
     enum-known-k
     enum-known-k-2
     enum-known-k-3

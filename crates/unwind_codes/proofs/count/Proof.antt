@@ -1,7 +1,5 @@
 -- `unwind_codes::count` meets its contract: the part that is lent is the slots of the info.
 -- Assumes nothing.
-use mathlib.Core.Path.{refl}
-use Prim.Native.Nat.{_+_, _*_}
 use Rattle.unwind_codes.specs.Codes.{codesOf}
 use Rattle.unwind_codes.proofs.Laws.{slots-lent}
 use borrow.Author.Needs.{needs}
@@ -31,7 +29,9 @@ count-in-requires c κs = search needs
 
 returns : tie.Need-returns
 unfolding codesOf
-returns c = rw (slots-lent (c .before .before .before .before .args .file .now) (c .before .before .before .before .args .h) (c .before .before .before .before .args .h .«code_start» + 2 * (c .before .before .before .before .args .h .«count_of_codes»)) refl) (c .count-in .ensures)
+returns c =
+    let a = c .before .before .before .before .args in
+    rw (slots-lent (a .file .now) (a .h)) (c .count-in .ensures)
 
 pub count-spec : {M : Type 1} → statement M
 count-spec =

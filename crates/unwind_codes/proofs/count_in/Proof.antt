@@ -1,11 +1,13 @@
--- `unwind_codes::count_in` meets its contract. The invariant: the number of the codes from here on, and of those passed, is that of all. The measure is the number of slots left.
+-- `unwind_codes::count_in` meets its contract. The invariant: the number of the codes from here on, and of those passed, is that of all.
+-- The measure is the number of slots left.
 -- Assumes nothing.
 use native.Mathlib.Omega.{arith}
 use mathlib.Core.Path.{_≡_, sym, _∙_}
 use Prim.Native.Nat.{_-_, _≤_}
 use Rattle.unwind_operation.specs.Operation.{slotCount}
 use Rattle.unwind_operation.proofs.Laws.{code-within}
-use Rattle.unwind_codes.specs.Codes.{codesAt, countOf}
+use Rattle.unwind_codes.specs.Codes.{codesAt}
+use Rattle.unwind_codes.specs.Code.{countIn}
 use Rattle.unwind_codes.proofs.Laws.{countFrom, count-start, count-end, count-refused, count-more}
 use borrow.Author.Needs.{needs}
 use Rattle.unwind_codes.proofs.count_in.Statement.{statement}
@@ -13,7 +15,7 @@ use Rattle.unwind_codes.proofs.count_in.Tie as tie
 
 abbrev Inv-loop : tie.InvT-loop
 Inv-loop slots version frame place₀ codes₀ place codes =
-    (countOf (codesAt slots 0 version (frame .0)) ≡ countFrom codes (codesAt slots place version (frame .0))) × (codes ≤ place)
+    (countIn (codesAt slots 0 version (frame .0)) ≡ countFrom codes (codesAt slots place version (frame .0))) × (codes ≤ place)
 
 abbrev μ-loop : tie.MeasureT-loop
 μ-loop slots version frame place₀ codes₀ place codes = slotCount slots - place
@@ -37,14 +39,21 @@ loop-less c =
 
 loop-again : tie.Need-loop-again Inv-loop μ-loop
 loop-again c =
-    let w = code-within _ _ _ _ (sym (c .before .t .given .1) ∙ c .before .before .before .next-code .ensures) in
-    (c .before .before .before .before .before .loop .inv .0 ∙ count-more _ _ _ _ _ (c .before .before .before .before .loop-test .taken) (c .before .before .before .next-code .ensures) (c .before .t .given .1), omega arith)
+    let c3 = c .before .before .before in
+    let c4 = c3 .before in
+    let c5 = c4 .before in
+    let w = code-within _ _ _ _ (sym (c .before .t .given .1) ∙ c3 .next-code .ensures) in
+    (c5 .loop .inv .0 ∙ count-more _ _ _ _ _ (c4 .loop-test .taken) (c3 .next-code .ensures) (c .before .t .given .1), omega arith)
 
 enum-known-k : tie.Need-enum-known-k Inv-loop μ-loop
 enum-known-k c = search needs
 
 returns : tie.Need-returns Inv-loop μ-loop
-returns c = count-refused _ _ _ _ _ (c .before .before .before .before .loop-test .taken) (c .before .before .before .next-code .ensures) (c .before .k .given .1) ∙ sym (c .before .before .before .before .before .loop .inv .0)
+returns c =
+    let c3 = c .before .before .before in
+    let c4 = c3 .before in
+    let c5 = c4 .before in
+    count-refused _ _ _ _ _ (c4 .loop-test .taken) (c3 .next-code .ensures) (c .before .k .given .1) ∙ sym (c5 .loop .inv .0)
 
 returns-2 : tie.Need-returns-2 Inv-loop μ-loop
 returns-2 c = count-end _ _ _ _ _ (c .loop-test .left) ∙ sym (c .before .loop .inv .0)

@@ -1,4 +1,5 @@
--- `unwind_codes::nth_in` meets its contract. The invariant: the code to reach is the one at the index that is left, of the codes from here on. The measure is the number of slots left.
+-- `unwind_codes::nth_in` meets its contract. The invariant: the code to reach is the one at the index that is left, of the codes from here
+-- on. The measure is the number of slots left.
 -- Assumes nothing.
 use native.Mathlib.Omega.{arith}
 use mathlib.Core.Path.{_≡_, refl, sym, _∙_}
@@ -28,24 +29,38 @@ enum-known-t : tie.Need-enum-known-t Inv-loop μ-loop
 enum-known-t c = search needs
 
 returns : tie.Need-returns Inv-loop μ-loop
-returns c = nth-here _ _ _ _ _ (c .before .before .before .before .before .before .loop-test .taken) (c .before .before .before .before .before .next-code .ensures) (c .before .before .before .t .given .1) (c .before .if1 .taken) ∙ sym (c .before .before .before .before .before .before .before .loop .inv)
+returns c =
+    let c3 = c .before .before .before in
+    let c5 = c3 .before .before in
+    let c6 = c5 .before in
+    let c7 = c6 .before in
+    nth-here _ _ _ _ _ (c6 .loop-test .taken) (c5 .next-code .ensures) (c3 .t .given .1) (c .before .if1 .taken) ∙ sym (c7 .loop .inv)
 
 sub-left : tie.Need-sub-left Inv-loop μ-loop
 sub-left c = search needs
 
 loop-less : tie.Need-loop-less Inv-loop μ-loop
 loop-less c =
-    let w = code-within _ _ _ _ (sym (c .before .before .t .given .1) ∙ c .before .before .before .before .next-code .ensures) in
+    let c4 = c .before .before .before .before in
+    let w = code-within _ _ _ _ (sym (c .before .before .t .given .1) ∙ c4 .next-code .ensures) in
     omega arith
 
 loop-again : tie.Need-loop-again Inv-loop μ-loop
-loop-again c = c .before .before .before .before .before .before .loop .inv ∙ nth-more _ _ _ _ _ (c .before .before .before .before .before .loop-test .taken) (c .before .before .before .before .next-code .ensures) (c .before .before .t .given .1) (c .if1 .left)
+loop-again c =
+    let c4 = c .before .before .before .before in
+    let c5 = c4 .before in
+    let c6 = c5 .before in
+    c6 .loop .inv ∙ nth-more _ _ _ _ _ (c5 .loop-test .taken) (c4 .next-code .ensures) (c .before .before .t .given .1) (c .if1 .left)
 
 enum-known-k : tie.Need-enum-known-k Inv-loop μ-loop
 enum-known-k c = search needs
 
 returns-2 : tie.Need-returns-2 Inv-loop μ-loop
-returns-2 c = nth-refused _ _ _ _ _ (c .before .before .before .before .loop-test .taken) (c .before .before .before .next-code .ensures) (c .before .k .given .1) ∙ sym (c .before .before .before .before .before .loop .inv)
+returns-2 c =
+    let c3 = c .before .before .before in
+    let c4 = c3 .before in
+    let c5 = c4 .before in
+    nth-refused _ _ _ _ _ (c4 .loop-test .taken) (c3 .next-code .ensures) (c .before .k .given .1) ∙ sym (c5 .loop .inv)
 
 returns-3 : tie.Need-returns-3 Inv-loop μ-loop
 returns-3 c = nth-past _ _ _ _ _ (c .loop-test .left) ∙ sym (c .before .loop .inv)

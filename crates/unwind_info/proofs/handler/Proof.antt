@@ -18,17 +18,24 @@ enum-known-address c = search needs
 
 sub-t10 : tie.Need-sub-t10
 sub-t10 c =
-    let f = u32-took _ _ _ (c .before .before .before .before .next-u32 .ensures) (c .before .before .address .given .1) in
+    let c4 = c .before .before .before .before in
+    let f = u32-took _ _ _ (c4 .next-u32 .ensures) (c .before .before .address .given .1) in
     omega arith
 
 enum-known-k : tie.Need-enum-known-k
 enum-known-k c = search needs
 
 returns : tie.Need-returns
-returns c = handler-there _ _ _ (new-at (c .before .before .before .before .before .new .ensures)) (u32-took _ _ _ (c .before .before .before .before .next-u32 .ensures) (c .before .before .address .given .1))
+returns c =
+    let c4 = c .before .before .before .before in
+    let c5 = c4 .before in
+    handler-there _ _ _ (new-at (c5 .new .ensures)) (u32-took _ _ _ (c4 .next-u32 .ensures) (c .before .before .address .given .1))
 
 returns-2 : tie.Need-returns-2
-returns-2 c = handler-cut _ _ _ (new-at (c .before .before .before .before .new .ensures)) (u32-cut _ _ _ (c .before .before .before .next-u32 .ensures) (c .before .k .given .1))
+returns-2 c =
+    let c3 = c .before .before .before in
+    let c4 = c3 .before in
+    handler-cut _ _ _ (new-at (c4 .new .ensures)) (u32-cut _ _ _ (c3 .next-u32 .ensures) (c .before .k .given .1))
 
 pub handler-spec : {M : Type 1} → statement M
 handler-spec =

@@ -1,8 +1,7 @@
 -- `unwind_info::read_follows` meets its contract: the flags tell what is read.
 -- Assumes nothing.
-use mathlib.Core.Path.{refl, sym, _∙_}
 use borrow.Author.Tests.{eq-eqb, ne-eqb}
-use Rattle.unwind_info.proofs.Laws.{follows-chained, follows-exception, follows-termination, follows-nothing}
+use Rattle.unwind_info.proofs.Laws.{chained-there, chained-cut, follows-chained, follows-exception, follows-termination, follows-nothing}
 use borrow.Author.Needs.{needs}
 use Rattle.unwind_info.proofs.read_follows.Statement.{statement}
 use Rattle.unwind_info.proofs.read_follows.Tie as tie
@@ -17,10 +16,16 @@ enum-known-k : tie.Need-enum-known-k
 enum-known-k c = search needs
 
 returns : tie.Need-returns
-returns c = follows-chained _ _ _ (eq-eqb _ _ (c .before .before .before .before .if1 .taken)) (sym (c .before .e .given .1) ∙ c .before .before .before .read .ensures) refl
+returns c =
+    let c3 = c .before .before .before in
+    let c3 = c3 in
+    follows-chained _ _ _ (eq-eqb _ _ (c3 .before .if1 .taken)) (chained-there _ _ (c3 .read .ensures) (c .before .e .given .1))
 
 returns-2 : tie.Need-returns-2
-returns-2 c = follows-chained _ _ _ (eq-eqb _ _ (c .before .before .before .before .if1 .taken)) (sym (c .before .k .given .1) ∙ c .before .before .before .read .ensures) refl
+returns-2 c =
+    let c3 = c .before .before .before in
+    let c3 = c3 in
+    follows-chained _ _ _ (eq-eqb _ _ (c3 .before .if1 .taken)) (chained-cut _ _ (c3 .read .ensures) (c .before .k .given .1))
 
 handler-requires : tie.Need-handler-requires
 handler-requires c κs = search needs
@@ -32,10 +37,14 @@ handler-requires-2 : tie.Need-handler-requires-2
 handler-requires-2 c κs = search needs
 
 returns-4 : tie.Need-returns-4
-returns-4 c = follows-termination _ _ _ (ne-eqb _ _ (c .before .before .before .if1 .left)) (ne-eqb _ _ (c .before .before .if2 .left)) (eq-eqb _ _ (c .before .if3 .taken)) (c .handler2 .ensures)
+returns-4 c =
+    let c3 = c .before .before .before in
+    follows-termination _ _ _ (ne-eqb _ _ (c3 .if1 .left)) (ne-eqb _ _ (c .before .before .if2 .left)) (eq-eqb _ _ (c .before .if3 .taken))
+    (c .handler2 .ensures)
 
 returns-5 : tie.Need-returns-5
-returns-5 c = follows-nothing _ _ _ (ne-eqb _ _ (c .before .before .if1 .left)) (ne-eqb _ _ (c .before .if2 .left)) (ne-eqb _ _ (c .if3 .left))
+returns-5 c = follows-nothing _ _ _ (ne-eqb _ _ (c .before .before .if1 .left)) (ne-eqb _ _ (c .before .if2 .left))
+    (ne-eqb _ _ (c .if3 .left))
 
 pub read-follows-spec : {M : Type 1} → statement M
 read-follows-spec =

@@ -1,18 +1,21 @@
--- `unwind_links::first_info` meets its contract: the file is too long, or the links are followed.
+-- `unwind_links::first_info` meets its contract: the info is located and reached.
 -- Assumes nothing.
-use Rattle.unwind_links.proofs.Laws.{first-long, first-follow}
+use mathlib.Core.Path.{ap, _∙_}
+use Rattle.unwind_links.specs.Links.{infoAt}
 use borrow.Author.Needs.{needs}
 use Rattle.unwind_links.proofs.first_info.Statement.{statement}
 use Rattle.unwind_links.proofs.first_info.Tie as tie
 
+locate-info-requires : tie.Need-locate-info-requires
+locate-info-requires c κs = search needs
+
+reach-requires : tie.Need-reach-requires
+reach-requires c κs = search needs
+
 returns : tie.Need-returns
-returns c = first-long _ _ _ (c .if1 .taken)
-
-follow-requires : tie.Need-follow-requires
-follow-requires c κs = search needs
-
-returns-2 : tie.Need-returns-2
-returns-2 c = first-follow _ _ _ (c .before .if1 .left) (c .follow .ensures)
+returns c = c .reach .ensures ∙ ap (infoAt _) (c .before .locate-info .ensures)
 
 pub first-info-spec : {M : Type 1} → statement M
-first-info-spec = tie.close (tie.spec returns follow-requires returns-2)
+first-info-spec =
+    tie.close
+    (tie.spec locate-info-requires reach-requires returns)

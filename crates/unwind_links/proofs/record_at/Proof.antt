@@ -18,7 +18,9 @@ enum-known-k : tie.Need-enum-known-k
 enum-known-k c = search needs
 
 returns : tie.Need-returns
-returns c = record-read _ _ _ (c .before .before .before .before .find-offset .ensures) (c .before .before .offset .given .1) (c .read .ensures)
+returns c =
+    let c4 = c .before .before .before .before in
+    record-read _ _ _ (c4 .find-offset .ensures) (c .before .before .offset .given .1) (c .read .ensures)
 
 returns-2 : tie.Need-returns-2
 returns-2 c = record-unmapped _ _ _ (c .before .before .before .find-offset .ensures) (c .before .k .given .1)

@@ -1,8 +1,11 @@
--- `unwind_operation::next_code` meets its contract: at each `return`, the tests and the form of the operation are the premises of a law of `nextCodeOf`.
+-- `unwind_operation::next_code` meets its contract: at each `return`, the tests and the form of the operation are the premises of a law of
+-- `nextCodeOf`.
 -- Assumes nothing.
 use native.Mathlib.Omega.{arith}
-use mathlib.Core.Path.{refl, sym, _∙_}
+use mathlib.Core.Path.{sym, ap, _∙_}
 use Rattle.unwind_operation.proofs.Laws.{code-version, code-passed, code-formed}
+use Rattle.unwind_operation.specs.Code.{formIn}
+use Rattle.unwind_operation.specs.declared.NextCode.the-variants.{Refused}
 use borrow.Author.Needs.{needs}
 use Rattle.unwind_operation.proofs.next_code.Statement.{statement}
 use Rattle.unwind_operation.proofs.next_code.Tie as tie
@@ -10,11 +13,13 @@ use Rattle.unwind_operation.proofs.next_code.Tie as tie
 known-version-requires : tie.Need-known-version-requires
 known-version-requires c κs = search needs
 
-past-the-count-requires : tie.Need-past-the-count-requires
-past-the-count-requires c κs = search needs
+beyond-requires : tie.Need-beyond-requires
+beyond-requires c κs = search needs
 
 returns : tie.Need-returns
-returns c = code-passed _ _ _ _ (sym (c .before .before .before .known-version .ensures) ∙ c .before .before .if1 .taken) (c .before .if2 .taken) (c .past-the-count .ensures)
+returns c =
+    let known = sym (c .before .before .before .known-version .ensures) ∙ c .before .before .if1 .taken in
+    code-passed _ _ _ _ known (c .before .if2 .taken) (c .beyond .ensures)
 
 mul-offset : tie.Need-mul-offset
 mul-offset c = search needs
@@ -58,27 +63,53 @@ three-slots-requires c κs = search needs
 enum-told : tie.Need-enum-told
 enum-told c = search needs
 
+refuse-requires : tie.Need-refuse-requires
+refuse-requires c κs = search needs
+
 returns-2 : tie.Need-returns-2
-returns-2 c = code-formed _ _ _ _ (sym (c .before .before .before .before .before .before .before .before .before .known-version .ensures) ∙ c .before .before .before .before .before .before .before .before .if1 .taken) (omega arith) (sym (c .before .before .operation .given .1) ∙ c .before .before .before .before .form-of .ensures) (c .taken .ensures)
+returns-2 c =
+    let c4 = c .before .before .before .before in
+    let c8 = c4 .before .before .before .before in
+    let known = sym (c8 .before .known-version .ensures) ∙ c8 .if1 .taken in
+    let form = ap formIn (sym (c .before .before .operation .given .1)) ∙ c4 .form-of .ensures in
+    code-formed _ _ _ _ known (omega arith) form (c .taken .ensures)
 
 returns-3 : tie.Need-returns-3
-returns-3 c = code-formed _ _ _ _ (sym (c .before .before .before .before .before .before .before .before .before .known-version .ensures) ∙ c .before .before .before .before .before .before .before .before .if1 .taken) (omega arith) (sym (c .before .before .kind .given .1) ∙ c .before .before .before .before .form-of .ensures) (c .two-slots .ensures)
+returns-3 c =
+    let c4 = c .before .before .before .before in
+    let c8 = c4 .before .before .before .before in
+    let known = sym (c8 .before .known-version .ensures) ∙ c8 .if1 .taken in
+    let form = ap formIn (sym (c .before .before .kind .given .1)) ∙ c4 .form-of .ensures in
+    code-formed _ _ _ _ known (omega arith) form (c .two-slots .ensures)
 
 returns-4 : tie.Need-returns-4
-returns-4 c = code-formed _ _ _ _ (sym (c .before .before .before .before .before .before .before .before .before .known-version .ensures) ∙ c .before .before .before .before .before .before .before .before .if1 .taken) (omega arith) (sym (c .before .before .kind2 .given .1) ∙ c .before .before .before .before .form-of .ensures) (c .three-slots .ensures)
+returns-4 c =
+    let c4 = c .before .before .before .before in
+    let c8 = c4 .before .before .before .before in
+    let known = sym (c8 .before .known-version .ensures) ∙ c8 .if1 .taken in
+    let form = ap formIn (sym (c .before .before .kind2 .given .1)) ∙ c4 .form-of .ensures in
+    code-formed _ _ _ _ known (omega arith) form (c .three-slots .ensures)
 
 returns-5 : tie.Need-returns-5
-returns-5 c = code-formed _ _ _ _ (sym (c .before .before .before .before .before .before .before .known-version .ensures) ∙ c .before .before .before .before .before .before .if1 .taken) (omega arith) (sym (c .enum-told .given .1) ∙ c .before .before .form-of .ensures) refl
+returns-5 c =
+    let c3 = c .before .before .before in
+    let c7 = c3 .before .before .before .before in
+    let known = sym (c7 .before .known-version .ensures) ∙ c7 .if1 .taken in
+    let form = ap formIn (sym (c .before .enum-told .given .1)) ∙ c3 .form-of .ensures in
+    code-formed _ _ _ _ known (omega arith) form (ap Refused (c .refuse .ensures))
+
+refuse-requires-2 : tie.Need-refuse-requires-2
+refuse-requires-2 c κs = search needs
 
 returns-6 : tie.Need-returns-6
-returns-6 c = code-version _ _ _ _ (sym (c .before .known-version .ensures) ∙ c .if1 .left)
+returns-6 c = code-version _ _ _ _ (sym (c .before .before .known-version .ensures) ∙ c .before .if1 .left) (c .refuse2 .ensures)
 
 pub next-code-spec : {M : Type 1} → statement M
 next-code-spec =
     tie.close
     (tie.spec
     known-version-requires
-    past-the-count-requires
+    beyond-requires
     returns
     mul-offset
     shared-slice-read-offset
@@ -94,8 +125,10 @@ next-code-spec =
     enum-known-kind-2
     three-slots-requires
     enum-told
+    refuse-requires
     returns-2
     returns-3
     returns-4
     returns-5
+    refuse-requires-2
     returns-6)

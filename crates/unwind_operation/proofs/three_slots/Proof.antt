@@ -32,18 +32,20 @@ taken-requires c κs = search needs
 enum-told : tie.Need-enum-told
 enum-told c = search needs
 
-past-the-count-requires : tie.Need-past-the-count-requires
-past-the-count-requires c κs = search needs
+beyond-requires : tie.Need-beyond-requires
+beyond-requires c κs = search needs
 
 returns : tie.Need-returns
 returns c =
-    let f = u32-found _ _ _ (c .before .before .before .before .before .read-u32 .ensures) (c .before .before .before .n .given .1) in
+    let c3 = c .before .before .before in
+    let c5 = c3 .before .before in
+    let f = u32-found _ _ _ (c5 .read-u32 .ensures) (c3 .n .given .1) in
     c .taken .ensures ∙ three-taken _ _ _ _ _ (omega (arith, f .inside)) (f .value) (c .before .operation .ensures)
 
 returns-2 : tie.Need-returns-2
 returns-2 c =
     let m = u32-missed _ _ _ (c .before .before .before .read-u32 .ensures) (c .before .enum-told .given .1) in
-    three-passed _ _ _ _ _ (omega (arith, m .past)) (c .past-the-count .ensures)
+    three-passed _ _ _ _ _ (omega (arith, m .past)) (c .beyond .ensures)
 
 pub three-slots-spec : {M : Type 1} → statement M
 three-slots-spec =
@@ -57,6 +59,6 @@ three-slots-spec =
     add-taken
     taken-requires
     enum-told
-    past-the-count-requires
+    beyond-requires
     returns
     returns-2)

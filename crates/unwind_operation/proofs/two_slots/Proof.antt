@@ -35,18 +35,21 @@ taken-requires c κs = search needs
 enum-told : tie.Need-enum-told
 enum-told c = search needs
 
-past-the-count-requires : tie.Need-past-the-count-requires
-past-the-count-requires c κs = search needs
+beyond-requires : tie.Need-beyond-requires
+beyond-requires c κs = search needs
 
 returns : tie.Need-returns
 returns c =
-    let f = u16-found _ _ _ (c .before .before .before .before .before .before .read-u16 .ensures) (c .before .before .before .before .n .given .1) in
-    c .taken .ensures ∙ two-taken _ _ _ _ _ (omega (arith, f .inside)) (f .value) (c .before .before .scaled .ensures) (c .before .operation .ensures)
+    let c4 = c .before .before .before .before in
+    let c6 = c4 .before .before in
+    let f = u16-found _ _ _ (c6 .read-u16 .ensures) (c4 .n .given .1) in
+    c .taken .ensures ∙ two-taken _ _ _ _ _ (omega (arith, f .inside)) (f .value) (c .before .before .scaled .ensures)
+    (c .before .operation .ensures)
 
 returns-2 : tie.Need-returns-2
 returns-2 c =
     let m = u16-missed _ _ _ (c .before .before .before .read-u16 .ensures) (c .before .enum-told .given .1) in
-    two-passed _ _ _ _ _ (omega (arith, m .past)) (c .past-the-count .ensures)
+    two-passed _ _ _ _ _ (omega (arith, m .past)) (c .beyond .ensures)
 
 pub two-slots-spec : {M : Type 1} → statement M
 two-slots-spec =
@@ -61,6 +64,6 @@ two-slots-spec =
     add-taken
     taken-requires
     enum-told
-    past-the-count-requires
+    beyond-requires
     returns
     returns-2)

@@ -1,4 +1,5 @@
--- `version_list::measure` meets its contract. The invariant of its loop: the entries passed and those of the list that is left are those of the whole list, and the whole list ends as the one that is left does.
+-- `version_list::measure` meets its contract. The invariant of its loop: the entries passed and those of the list that is left are those of
+-- the whole list, and the whole list ends as the one that is left does.
 -- Assumes nothing.
 use native.Mathlib.Omega.{arith}
 use borrow.Author.Needs.{needs}
@@ -12,7 +13,9 @@ use Rattle.version_list.proofs.measure.Tie as tie
 
 abbrev Inv-loop : tie.InvT-loop
 Inv-loop section stated at big kind left₀ entries₀ place₀ left entries place =
-    (entries + left ≡ stated) × (length (entriesFrom kind big section stated at .rows) ≡ entries + length (entriesFrom kind big section left place .rows)) × (entriesFrom kind big section stated at .whole ≡ entriesFrom kind big section left place .whole)
+    (entries + left ≡ stated) ×
+    (length (entriesFrom kind big section stated at .rows) ≡ entries + length (entriesFrom kind big section left place .rows)) ×
+    (entriesFrom kind big section stated at .whole ≡ entriesFrom kind big section left place .whole)
 
 abbrev μ-loop : tie.MeasureT-loop
 μ-loop section stated at big kind left₀ entries₀ place₀ left entries place = left
@@ -30,7 +33,15 @@ cast-place : tie.Need-cast-place Inv-loop μ-loop
 cast-place c = search needs
 
 add-place : tie.Need-add-place Inv-loop μ-loop
-add-place c = omega (arith, next-there (c .before .before .before .before .before .before .before .args .kind) (c .before .before .before .before .before .before .before .args .big) (c .before .before .before .before .before .before .before .args .section .now) (c .before .before .before .before .before .loop .place) (sym (c .before .n .given .1) ∙ c .before .before .before .onward-at .ensures))
+add-place c =
+    let c3 = c .before .before .before in
+    let c5 = c3 .before .before in
+    let c7 = c5 .before .before in
+    omega (
+      arith,
+      next-there (c7 .args .kind) (c7 .args .big) (c7 .args .section .now) (c5 .loop .place)
+          (sym (c .before .n .given .1) ∙ c3 .onward-at .ensures),
+    )
 
 enum-told : tie.Need-enum-told Inv-loop μ-loop
 enum-told c = search needs
@@ -40,16 +51,24 @@ add-t13 c = omega arith
 
 returns : tie.Need-returns Inv-loop μ-loop
 returns c =
-    let q = count-last (c .before .before .before .before .before .before .args .kind) (c .before .before .before .before .before .before .args .big) (c .before .before .before .before .before .before .args .section .now) (c .before .before .before .before .loop .left) (c .before .before .before .before .loop .place) (c .before .before .before .loop-test .taken) (sym (c .enum-told .given .1) ∙ c .before .before .onward-at .ensures) in
-    (omega arith, sym (c .before .before .before .before .loop .inv .2 ∙ q .1))
+    let c3 = c .before .before .before in
+    let c4 = c3 .before in
+    let c6 = c4 .before .before in
+    let q = count-last (c6 .args .kind) (c6 .args .big) (c6 .args .section .now) (c4 .loop .left) (c4 .loop .place) (c3 .loop-test .taken)
+    (sym (c .enum-told .given .1) ∙ c .before .before .onward-at .ensures) in
+    (omega arith, sym (c4 .loop .inv .2 ∙ q .1))
 
 enum-told-2 : tie.Need-enum-told-2 Inv-loop μ-loop
 enum-told-2 c = search needs
 
 returns-2 : tie.Need-returns-2 Inv-loop μ-loop
 returns-2 c =
-    let q = count-bad (c .before .before .before .before .before .before .args .kind) (c .before .before .before .before .before .before .args .big) (c .before .before .before .before .before .before .args .section .now) (c .before .before .before .before .loop .left) (c .before .before .before .before .loop .place) (c .before .before .before .loop-test .taken) (sym (c .enum-told2 .given .1) ∙ c .before .before .onward-at .ensures) in
-    (omega arith, sym (c .before .before .before .before .loop .inv .2 ∙ q .1))
+    let c3 = c .before .before .before in
+    let c4 = c3 .before in
+    let c6 = c4 .before .before in
+    let q = count-bad (c6 .args .kind) (c6 .args .big) (c6 .args .section .now) (c4 .loop .left) (c4 .loop .place) (c3 .loop-test .taken)
+    (sym (c .enum-told2 .given .1) ∙ c .before .before .onward-at .ensures) in
+    (omega arith, sym (c4 .loop .inv .2 ∙ q .1))
 
 add-entries : tie.Need-add-entries Inv-loop μ-loop
 add-entries c = omega arith
@@ -62,12 +81,19 @@ loop-less c = omega arith
 
 loop-again : tie.Need-loop-again Inv-loop μ-loop
 loop-again c =
-    let q = count-next (c .before .before .before .before .before .before .before .args .kind) (c .before .before .before .before .before .before .before .args .big) (c .before .before .before .before .before .before .before .args .section .now) (c .before .before .before .before .before .loop .left) (c .before .before .before .before .before .loop .place) (c .before .before .before .before .loop-test .taken) (sym (c .before .n .given .1) ∙ c .before .before .before .onward-at .ensures) in
-    (omega arith, omega arith, c .before .before .before .before .before .loop .inv .2 ∙ q .1)
+    let c3 = c .before .before .before in
+    let c4 = c3 .before in
+    let c5 = c4 .before in
+    let c7 = c5 .before .before in
+    let q = count-next (c7 .args .kind) (c7 .args .big) (c7 .args .section .now) (c5 .loop .left) (c5 .loop .place) (c4 .loop-test .taken)
+    (sym (c .before .n .given .1) ∙ c3 .onward-at .ensures) in
+    (omega arith, omega arith, c5 .loop .inv .2 ∙ q .1)
 
 returns-3 : tie.Need-returns-3 Inv-loop μ-loop
 returns-3 c =
-    let q = count-none (c .before .before .before .args .kind) (c .before .before .before .args .big) (c .before .before .before .args .section .now) (c .before .loop .left) (c .before .loop .place) (c .loop-test .left) in
+    let c3 = c .before .before .before in
+    let q = count-none (c3 .args .kind) (c3 .args .big) (c3 .args .section .now) (c .before .loop .left) (c .before .loop .place)
+    (c .loop-test .left) in
     (omega arith, sym (c .before .loop .inv .2 ∙ q .1))
 
 pub measure-spec : {M : Type 1} → statement M

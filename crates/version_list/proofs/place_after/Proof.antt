@@ -17,7 +17,14 @@ cast-result : tie.Need-cast-result
 cast-result c = search needs
 
 add-result : tie.Need-add-result
-add-result c = omega (arith, next-there (c .before .before .before .before .before .args .kind) (c .before .before .before .before .before .args .big) (c .before .before .before .before .before .args .section .now) (c .before .before .before .before .before .args .at) (sym (c .before .n .given .1) ∙ c .before .before .before .onward-at .ensures))
+add-result c =
+    let c3 = c .before .before .before in
+    let c5 = c3 .before .before in
+    omega (
+      arith,
+      next-there (c5 .args .kind) (c5 .args .big) (c5 .args .section .now) (c5 .args .at)
+          (sym (c .before .n .given .1) ∙ c3 .onward-at .ensures),
+    )
 
 enum-told : tie.Need-enum-told
 enum-told c = search needs

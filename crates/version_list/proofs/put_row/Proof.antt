@@ -1,4 +1,4 @@
--- `version_list::put_row` meets its contract: the place is stored, and the numbers of the record behind it.
+-- `version_list::put_row` meets its contract: the place is stored, and the numbers of the record after it.
 -- Assumes nothing.
 use lib.ListN.{length-set}
 use Rattle.version_list.proofs.Laws.{row-put}
@@ -25,7 +25,10 @@ same-length : tie.Need-same-length
 same-length c = simp length-set at (c .before .out .given)
 
 returns : tie.Need-returns
-returns c = row-put (c .before .before .before .before .before .before .args .kind) (c .before .before .before .before .before .before .args .big) (c .before .before .before .before .before .before .args .section .now) (c .before .before .before .before .before .before .args .at) _ _ (c .before .before .before .before .before .before .args .base) (c .before .before .before .before .before .before .pre .1) (c .before .before .before .before .before .before .pre .2) (c .before .before .write .ensures .1)
+returns c =
+    let c6 = c .before .before .before .before .before .before in
+    row-put (c6 .args .kind) (c6 .args .big) (c6 .args .section .now) (c6 .args .at) _ _ (c6 .args .base) (c6 .pre .1) (c6 .pre .2)
+    (c .before .before .write .ensures .1)
 
 pub put-row-spec : {M : Type 1} → statement M
 put-row-spec =

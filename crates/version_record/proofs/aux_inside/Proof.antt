@@ -14,7 +14,9 @@ add-inside : tie.Need-add-inside
 add-inside c = search needs
 
 inside-requires : tie.Need-inside-requires
-inside-requires c κs = let p = rw (c .enum-told .given .1) at (c .before .before .before .pre) in (omega arith, omega arith)
+inside-requires c κs =
+    let c3 = c .before .before .before in
+    let p = rw (c .enum-told .given .1) at (c3 .pre) in (omega arith, omega arith)
 
 enum-told-2 : tie.Need-enum-told-2
 enum-told-2 c = search needs
@@ -26,7 +28,9 @@ add-inside-2 : tie.Need-add-inside-2
 add-inside-2 c = search needs
 
 inside-requires-2 : tie.Need-inside-requires-2
-inside-requires-2 c κs = let p = rw (c .enum-told3 .given .1) at (c .before .before .before .pre) in (omega arith, omega arith)
+inside-requires-2 c κs =
+    let c3 = c .before .before .before in
+    let p = rw (c .enum-told3 .given .1) at (c3 .pre) in (omega arith, omega arith)
 
 enum-told-4 : tie.Need-enum-told-4
 enum-told-4 c = search needs

@@ -48,15 +48,22 @@ enum-told-2 c = search needs
 
 returns-3 : tie.Need-returns-3
 returns-3 c =
-    let z = new-at (c .before .before .before .before .new2 .ensures) in
-    let f = u32-took _ _ _ (c .before .before .before .next-u32 .ensures) (c .before .t2 .given .1) in
-    rw (four (c .before .before .before .before .before .before .before .pre .1) (c .before .before .before .before .before .if1 .left), f .value, z)
+    let c3 = c .before .before .before in
+    let c4 = c3 .before in
+    let c5 = c4 .before in
+    let c7 = c5 .before .before in
+    let z = new-at (c4 .new2 .ensures) in
+    let f = u32-took _ _ _ (c3 .next-u32 .ensures) (c .before .t2 .given .1) in
+    rw (four (c7 .pre .1) (c5 .if1 .left), f .value, z)
 
 returns-4 : tie.Need-returns-4
 returns-4 c =
-    let z = new-at (c .before .before .before .new2 .ensures) in
+    let c3 = c .before .before .before in
+    let c4 = c3 .before in
+    let c6 = c4 .before .before in
+    let z = new-at (c3 .new2 .ensures) in
     let m = u32-cut _ _ _ (c .before .before .next-u32 .ensures) (c .enum-told2 .given .1) in
-    let e = four (c .before .before .before .before .before .before .pre .1) (c .before .before .before .before .if1 .left) in
+    let e = four (c6 .pre .1) (c4 .if1 .left) in
     omega arith
 
 pub number-spec : {M : Type 1} → statement M

@@ -34,20 +34,29 @@ enum-known-k c = search needs
 returns : tie.Need-returns
 unfolding getAtInOf numbersAt
 returns c =
-    let z = new-at (c .before .before .before .before .before .new .ensures) in
-    let f = u16-took _ _ _ (c .before .before .before .before .next-u16 .ensures) (c .before .before .t .given .1) in
-    must-on _ _ _ _ (lt-ltb _ _ (c .before .before .before .before .before .before .if1 .taken)) (full-is _ _ _ _ entry _ (omega arith) (rw (c .versym-of .ensures, f .value, z) refl))
+    let c4 = c .before .before .before .before in
+    let c5 = c4 .before in
+    let c6 = c5 .before in
+    let z = new-at (c5 .new .ensures) in
+    let f = u16-took _ _ _ (c4 .next-u16 .ensures) (c .before .before .t .given .1) in
+    must-on _ _ _ _ (lt-ltb _ _ (c6 .if1 .taken)) (full-is _ _ _ _ entry _ (omega arith) (rw (c .versym-of .ensures, f .value, z) refl))
 
 returns-2 : tie.Need-returns-2
 unfolding getAtInOf
 returns-2 c =
-    let z = new-at (c .before .before .before .before .new .ensures) in
-    let m = u16-cut _ _ _ (c .before .before .before .next-u16 .ensures) (c .before .k .given .1) in
-    must-on _ _ _ _ (lt-ltb _ _ (c .before .before .before .before .before .if1 .taken)) (missed-at _ entry 0 (omega arith) _ Refused _ _ _ m (omega arith) (λ i. omega arith))
+    let c3 = c .before .before .before in
+    let c4 = c3 .before in
+    let c5 = c4 .before in
+    let z = new-at (c4 .new .ensures) in
+    let m = u16-cut _ _ _ (c3 .next-u16 .ensures) (c .before .k .given .1) in
+    must-on _ _ _ _ (lt-ltb _ _ (c5 .if1 .taken)) (missed-at _ entry 0 (omega arith) _ Refused _ _ _ m (omega arith) (λ i. omega arith))
+
+refuse-requires : tie.Need-refuse-requires
+refuse-requires c κs = search needs
 
 returns-3 : tie.Need-returns-3
 unfolding getAtInOf
-returns-3 c = must-off _ _ _ _ (le-ltb _ _ (c .if1 .left)) refl
+returns-3 c = must-off _ _ _ _ (le-ltb _ _ (c .before .if1 .left)) (c .refuse .ensures)
 
 pub get-at-in-spec : {M : Type 1} → statement M
 get-at-in-spec =
@@ -61,4 +70,5 @@ get-at-in-spec =
     enum-known-k
     returns
     returns-2
+    refuse-requires
     returns-3)

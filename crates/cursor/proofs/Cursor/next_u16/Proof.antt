@@ -28,7 +28,9 @@ returns c =
     next-value takenU16 _ _ 2 _ _ (f .inside) (f .value)
 
 returns-2 : tie.Need-returns-2
-returns-2 c = next-missed takenU16 _ _ 2 _ _ (u16-missed _ _ _ (c .before .before .before .read-u16 .ensures) (c .before .k .given .1))
+returns-2 c =
+    let c3 = c .before .before .before in
+    next-missed takenU16 _ _ 2 _ _ (u16-missed _ _ _ (c3 .read-u16 .ensures) (c .before .k .given .1))
 
 pub next-u16-spec : {M : Type 1} → statement M
 next-u16-spec =

@@ -28,7 +28,9 @@ returns c =
     next-value takenU32 _ _ 4 _ _ (f .inside) (f .value)
 
 returns-2 : tie.Need-returns-2
-returns-2 c = next-missed takenU32 _ _ 4 _ _ (u32-missed _ _ _ (c .before .before .before .read-u32 .ensures) (c .before .k .given .1))
+returns-2 c =
+    let c3 = c .before .before .before in
+    next-missed takenU32 _ _ 4 _ _ (u32-missed _ _ _ (c3 .read-u32 .ensures) (c .before .k .given .1))
 
 pub next-u32-spec : {M : Type 1} → statement M
 next-u32-spec =

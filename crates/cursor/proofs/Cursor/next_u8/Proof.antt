@@ -28,7 +28,9 @@ returns c =
     next-value takenU8 _ _ 1 _ _ (f .inside) (f .value)
 
 returns-2 : tie.Need-returns-2
-returns-2 c = next-missed takenU8 _ _ 1 _ _ (u8-missed _ _ (c .before .before .before .read-u8 .ensures) (c .before .k .given .1))
+returns-2 c =
+    let c3 = c .before .before .before in
+    next-missed takenU8 _ _ 1 _ _ (u8-missed _ _ (c3 .read-u8 .ensures) (c .before .k .given .1))
 
 pub next-u8-spec : {M : Type 1} → statement M
 next-u8-spec =

@@ -1,4 +1,5 @@
--- `unwind_operation::Register::name` meets its contract: its table is the names in rows, as antt computes, and the rule of such a table does the rest.
+-- `unwind_operation::Register::name` meets its contract: its table is the names in rows, as antt computes, and the rule of such a table
+-- does the rest.
 -- Assumes nothing.
 use mathlib.Core.List.{[], _∷_}
 use Rattle.answer.proofs.Table.{row-at, row-past}

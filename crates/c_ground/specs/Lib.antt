@@ -1,0 +1,2 @@
+-- `Fields` names what reading and writing a field answers at each width.
+pub mod Fields

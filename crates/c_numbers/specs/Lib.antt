@@ -1,0 +1,2 @@
+-- `Bit` is a yes or no as a number.
+pub mod Bit

@@ -1,0 +1,2 @@
+-- `Theorems` says that each promise fixes its answer.
+pub mod Theorems

@@ -1,0 +1,2 @@
+-- `Sections` says how a C caller states the section table.
+pub mod Sections

@@ -1,0 +1,35 @@
+-- `c_versions::hullsift_vernauxs` meets its contract: what it answers and stores is what the answer of the door stands for. Assumes
+-- nothing.
+use borrow.Author.Needs.{needs}
+use Rattle.version_section.specs.Answers.{answerCountEntries}
+use Rattle.answer.proofs.Laws.{told-list}
+use Rattle.c_versions.proofs.hullsift_vernauxs.Statement.{statement}
+use Rattle.c_versions.proofs.hullsift_vernauxs.Tie as tie
+
+auxiliaries-requires : tie.Need-auxiliaries-requires
+auxiliaries-requires c κs = search needs
+
+count-entries-values-requires : tie.Need-count-entries-values-requires
+count-entries-values-requires c κs = search needs
+
+count-entries-number-requires : tie.Need-count-entries-number-requires
+count-entries-number-requires c κs = search needs
+
+same-length : tie.Need-same-length
+same-length c = search needs
+
+returns : tie.Need-returns
+returns c =
+    let t = told-list answerCountEntries 1 (c .before .before .before .before .auxiliaries .ensures) (c .count-entries-number .ensures)
+    (c .before .count-entries-values .ensures) in
+    (t .0, (t .1, t .2))
+
+pub hullsift-vernauxs-spec : {M : Type 1} → statement M
+hullsift-vernauxs-spec =
+    tie.close
+    (tie.spec
+    auxiliaries-requires
+    count-entries-values-requires
+    count-entries-number-requires
+    same-length
+    returns)

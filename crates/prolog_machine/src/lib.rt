@@ -1,0 +1,1 @@
+// What a prolog does when it runs: definitions (specs/).

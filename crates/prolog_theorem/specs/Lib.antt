@@ -1,0 +1,2 @@
+-- `Recovered` has what unwinding gives after any body.
+pub mod Recovered

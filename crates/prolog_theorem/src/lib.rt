@@ -1,0 +1,1 @@
+// Unwinding undoes the prolog: the theorem (proofs/Theorem.antt).

@@ -1,0 +1,1 @@
+// The strict check of a chain of codes: definitions (specs/).

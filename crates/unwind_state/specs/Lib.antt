@@ -1,0 +1,2 @@
+-- `State` has the registers and the window of stack words.
+pub mod State

@@ -1,0 +1,1 @@
+// One unwinding step: definitions (specs/).

@@ -1,0 +1,3 @@
+/* What the sources here need of <stddef.h>: the kit's compiler comes with no headers. */
+typedef __SIZE_TYPE__ size_t;
+#define NULL ((void *)0)
