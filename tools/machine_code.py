@@ -14,7 +14,7 @@ class Function:
     def __init__(self, name, start):
         self.name, self.start, self.code = name, start, []   # code: (address, mnemonic, operands)
         self.own = 0                                         # its own deepest, with the return address
-        self.calls = {}                                      # start of another: depth at which it is called
+        self.calls = {}                                      # name: depth at which it is called
         self.below = 0                                       # the deepest use of the red zone
         self.tabled = False                                  # it jumps through a table
 
@@ -128,25 +128,25 @@ def walk(f, named):
 
 
 def depths(found):
-    """How deep the stack of the functions with each name is, with all that they call, the return address counted."""
+    """How deep each function's stack is with all that it calls, its return address counted."""
+    named = {f.start: name for name, f in found.items()}
     for f in found.values():
-        walk(f)
+        walk(f, named)
     deepest = {}
 
-    def of(start, path):
-        if start not in found:
-            fail(f"{found[path[-1]].name} calls {start:#x}, where no function of the image starts")
-        if start in path:
-            fail("recursion:", " -> ".join(found[one].name for one in path[path.index(start):] + [start]))
-        if start not in deepest:
-            f = found[start]
-            deepest[start] = max([f.own] + [depth + of(callee, path + [start]) for callee, depth in f.calls.items()])
-        return deepest[start]
+    def of(name, path):
+        if name in path:
+            fail("recursion:", " -> ".join(path[path.index(name):] + [name]))
+        if name not in found:
+            fail(f"{path[-1]} calls {name}, which is not in the image")
+        if name not in deepest:
+            f = found[name]
+            deepest[name] = max([f.own] + [depth + of(callee, path + [name]) for callee, depth in f.calls.items()])
+        return deepest[name]
 
-    names = {}
-    for start, f in found.items():
-        names[f.name] = max(names.get(f.name, 0), of(start, []))
-    return names
+    for name in found:
+        of(name, [])
+    return deepest
 
 
 def registers(found):

@@ -40,7 +40,7 @@ use Rattle.exception_data.specs.Answers.{answerOpenExceptionData, countO
 use Rattle.exception_data.specs.declared.ExceptionData.{ExceptionData}
 use Rattle.exception_data.specs.declared.OpenExceptionData.{OpenExceptionData}
 use Rattle.exception_data.specs.declared.OpenExceptionData.the-variants.{Value, Refused}
-use Rattle.exception_data.proofs.Laws.{tableIn, directoryIn, open-refused, open-other, open-missing, record-at}
+use Rattle.exception_data.proofs.Laws.{tableIn, directoryIn, open-refused, open-other, open-missing, open-ordered, record-at}
 
 never : {e : ExceptionData} {k : Refusal} → Value e ≡ Refused k → ⊥
 never e = let z : _≡_ {A = ℕ} 0 1 = cc in omega arith
@@ -133,6 +133,14 @@ header-by s (headed.Refused k) hs f = absurd (never f)
 pub open-told : (s : List ℕ) (opened : ExceptionData) → Value opened ≡ openOf s → Opens s opened
 unfolding openOf
 open-told s opened f = header-by s (openHeaderOf s) refl f
+
+-- What passes every check is opened.
+pub told-open : (s : List ℕ) (opened : ExceptionData) → Opens s opened → Value opened ≡ openOf s
+told-open s opened o =
+    ap Value (o .value)
+    ∙ open-ordered s refl (sym (o .headers)) (o .machine) (o .named) (o .here) (o .whole) refl
+    (sym (o .place ∙ ap (λ (x : ExceptionData). findOffsetOf s (x .sections) (o .directory .«virtual_address»)) (o .value)))
+    (o .aligned) refl (sym (o .check ∙ ap (λ (x : ExceptionData). checkOf s (opened .table) (x .count)) (o .value)))
 
 -- 8.1: What the checks of the headers and of the section table refuse is refused so, whatever the machine is.
 pub headers-first : (s : List ℕ) (k : Refusal) → headed.Refused k ≡ openHeaderOf s → Refused k ≡ openOf s

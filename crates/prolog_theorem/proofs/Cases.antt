@@ -1,4 +1,4 @@
--- The theorem is not empty: runs that meet all its hypotheses, and what it gives for them. The first two are cases of document 01.
+-- The theorem is not empty: runs that meet all its hypotheses, and what it gives for them. The first two are cases of the request.
 -- Assumes nothing.
 use mathlib.Core.Path.{_≡_, refl, _∙_}
 use mathlib.Core.Logic.{_≢_}

@@ -24,7 +24,7 @@ fn print(code: &Code, info: &Info) {
     }
 }
 
-fn number(word: &String) -> Option<u32> {
+fn number(word: &str) -> Option<u32> {
     match word.strip_prefix("0x") {
         Some(digits) => u32::from_str_radix(digits, 16).ok(),
         None => word.parse().ok(),
@@ -33,7 +33,7 @@ fn number(word: &String) -> Option<u32> {
 
 fn main() {
     let words: Vec<String> = std::env::args().collect();
-    let (file, address) = match (words.get(1).and_then(|path| std::fs::read(path).ok()), words.get(2).and_then(number)) {
+    let (file, address) = match (words.get(1).and_then(|path| std::fs::read(path).ok()), words.get(2).and_then(|word| number(word))) {
         (Some(file), Some(address)) => (file, address),
         _ => {
             println!("usage: unwind IMAGE ADDRESS");
