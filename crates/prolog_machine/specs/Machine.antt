@@ -13,13 +13,13 @@ use Rattle.unwind_operation.specs.declared.UnwindOperation.the-variants.{Epilog
 use Rattle.unwind_array.specs.Arrays.{Frame, ChainCode}
 use Rattle.unwind_state.specs.State.{gpr, rsp, withGpr, withRsp}
 use Rattle.unwind_state.specs.declared.State.{State}
-use Rattle.unwind_step.specs.Undo.{placeOf, xmmNumber}
+use Rattle.unwind_undo.specs.Undo.{placeOf, xmmNumber}
 
--- the word of 64 bits at each address; the words that a strict prolog touches lie at multiples of 8 from one another
+-- 18.1: the word of 64 bits at each address; the words that a strict prolog touches lie at multiples of 8 from one another
 abbrev pub Memory : Type 0
 Memory = ℕ → ℕ
 
--- Registers and memory, and four words that a machine frame takes up and that no operation changes: SS, RFLAGS, CS, and the error code.
+-- 18.1: Registers and memory, and four words that a machine frame takes up and that no operation changes: SS, RFLAGS, CS, and the error code.
 pub record Machine : Type 0 where
   pub registers : State
   pub memory : Memory
@@ -68,7 +68,7 @@ xmmLow m n = getD (m .registers .xmm) (2 * n) 0
 abbrev pub xmmHigh : Machine → ℕ → ℕ
 xmmHigh m n = getD (m .registers .xmm) (2 * n + 1) 0
 
--- How a prolog is entered: by a call, with the return address at RSP; or by the processor, which has pushed a machine frame itself, on
+-- 18.2, 18.8: How a prolog is entered: by a call, with the return address at RSP; or by the processor, which has pushed a machine frame itself, on
 -- this stack or another, with an error code below it or without.
 pub data Entry : Type 0 where
   called : Entry
@@ -82,7 +82,7 @@ abbrev pub pushError : Bool → Machine → Machine
 pushError true m = pushWord (m .error) m
 pushError false m = m
 
--- A machine frame: the return address is popped; SS, RSP as it is then, RFLAGS, CS and the return address are pushed, then an error code.
+-- 18.6, 18.8: A machine frame: the return address is popped; SS, RSP as it is then, RFLAGS, CS and the return address are pushed, then an error code.
 -- Where the processor pushed the frame before entry, nothing is left to do.
 abbrev pub pushFrame : Entry → Bool → Machine → Machine
 pushFrame called code m =
@@ -93,22 +93,22 @@ pushFrame (interrupted found) code m = m
 
 -- What an operation does when it runs, by the frame of its info.
 abbrev pub runOne : Entry → Frame → UnwindOperation → Machine → Machine
--- a push: RSP falls by 8, and the register lies at RSP
+-- 18.3: a push: RSP falls by 8, and the register lies at RSP
 runOne entry f (PushNonVolatile r) m = pushWord (gpr (m .registers) (r .0)) m
--- an allocation: RSP falls by its size
+-- 18.3: an alloc: RSP falls by its size
 runOne entry f (Alloc n) m = moveRsp (rspOf m - n) m
--- a set frame: the frame register is RSP and the frame offset
+-- 18.4: a set frame: the frame register is RSP and the frame offset
 runOne entry f SetFPRegister m = withRegisters m (withGpr (m .registers) (f .register) (rspOf m + f .offset))
--- a save: the register lies at its place above RSP
+-- 18.5: a save: the register lies at its place above RSP
 runOne entry f (SaveNonVolatile r o) m = putWord (placeOf o) (gpr (m .registers) (r .0)) m
 -- a save of the low half of an XMM register
 runOne entry f (SaveXMM r o) m = putWord (placeOf o) (xmmLow m (xmmNumber r)) m
 -- an epilog stands elsewhere in the code
 runOne entry f (Epilog x y) m = m
--- a save of an XMM register: two words, the low one at the lower address
+-- 18.5: a save of an XMM register: two words, the low one at the lower address
 runOne entry f (SaveXMM128 r o) m =
     withWord (putWord (placeOf o) (xmmLow m (xmmNumber r)) m) (rspOf m + placeOf o + 8) (xmmHigh m (xmmNumber r))
--- a machine frame
+-- 18.6: a machine frame
 runOne entry f (PushMachineFrame code) m = pushFrame entry code m
 -- without effect
 runOne entry f Noop m = m
@@ -118,7 +118,7 @@ abbrev pub run : Entry → List ChainCode → Machine → Machine
 run entry [] m = m
 run entry (c ∷ cs) m = runOne entry (c .frame) (c .code .operation) (run entry cs m)
 
--- The caller of a function: its registers are those at entry, but for RIP and RSP. After a call RIP is the return address, and RSP lies
+-- 19.7, 19.8, 19.9: The caller of a function: its registers are those at entry, but for RIP and RSP. After a call RIP is the return address, and RSP lies
 -- above that. In a machine frame RIP is the lowest word but for an error code, and RSP lies 24 above it.
 abbrev pub callerOf : Entry → Machine → State
 callerOf called m = record { gpr = withRsp (m .registers) (rspOf m + 8) .gpr; rip = m .memory (rspOf m); xmm = m .registers .xmm }

@@ -15,8 +15,8 @@ use Rattle.unwind_operation.specs.declared.UnwindOperation.the-variants.{Epilog
 use Rattle.unwind_array.specs.Arrays.{Frame, Arrays, ChainCode, codesIn, outerCodes, joinedOf}
 use Rattle.unwind_state.specs.State.{gpr, Window, held, wordAt}
 use Rattle.unwind_state.specs.declared.State.{State}
-use Rattle.unwind_step.specs.Undo.{placeOf, xmmNumber}
-use Rattle.unwind_step.specs.Distance.{Distance, at, whole}
+use Rattle.unwind_undo.specs.Undo.{placeOf, xmmNumber}
+use Rattle.unwind_undo.specs.Distance.{Distance, at, whole}
 use Rattle.prolog_machine.specs.Machine.{Memory, Machine, rspOf, Entry, called, interrupted, errorBytes, pushFrame, run}
 
 -- ---- lists
@@ -68,11 +68,11 @@ abbrev pub upTo : Distance → List ChainCode → List ChainCode
 upTo d [] = []
 upTo d (c ∷ cs) = pick (reached d (c .code .«code_offset»)) (c ∷ upTo d cs) (upTo d cs)
 
--- of the found info the codes whose offset is at most the distance, and all codes of the infos that it is chained to
+-- 18.9: of the found info the codes whose offset is at most the distance, and all codes of the infos that it is chained to
 abbrev pub ranOf : Distance → Arrays → List ChainCode
 ranOf d a = upTo d (codesIn true (a .found)) ++ outerCodes (a .outer)
 
--- the distance is at or past the prolog size
+-- 18.10: the distance is at or past the prolog size
 abbrev pub PastProlog : Distance → ℕ → Type 0
 PastProlog (at d) size = size ≤ d
 PastProlog whole size = Unit {0}
@@ -93,7 +93,7 @@ neededWith entry (PushMachineFrame code) p more =
     (rspOf (pushFrame entry code p) + errorBytes code) ∷ (rspOf (pushFrame entry code p) + errorBytes code + 24) ∷ []
 neededWith entry Noop p more = more
 
--- the words that tell the caller once codes have run: theirs, and the return address
+-- 19.6: the words that tell the caller once codes have run: theirs, and the return address
 abbrev pub needed : Entry → List ChainCode → Machine → List ℕ
 needed entry [] m = rspOf m ∷ []
 needed entry (c ∷ cs) m = neededWith entry (c .code .operation) (run entry cs m) (needed entry cs m)
@@ -127,7 +127,7 @@ entryWords (interrupted code) m = frameWords code (rspOf m)
 
 -- ---- no address leaves 64 bits
 
--- RSP never falls below 0; the frame register and the places of saves stay below 2^64
+-- 19.4: RSP never falls below 0; the frame register and the places of saves stay below 2^64
 abbrev pub FitsOne : Entry → Frame → UnwindOperation → Machine → Type 0
 FitsOne entry f (PushNonVolatile r) p = 8 ≤ rspOf p
 FitsOne entry f (Alloc n) p = n ≤ rspOf p
@@ -167,7 +167,7 @@ abbrev pub machineFrames : List ChainCode → List Bool
 machineFrames [] = []
 machineFrames (c ∷ cs) = machineFrame (c .code .operation) (machineFrames cs)
 
--- a prolog that the processor entered has a machine frame, of the form that the processor pushed, and the stop is at or past its offset
+-- 18.8: a prolog that the processor entered has a machine frame, of the form that the processor pushed, and the stop is at or past its offset
 abbrev pub Entered : Entry → List ChainCode → Type 0
 Entered called cs = Unit {0}
 Entered (interrupted code) cs = machineFrames cs ≡ code ∷ []
@@ -213,7 +213,7 @@ SameWord n p x = n .memory x ≡ p .memory x
 abbrev pub SameXmm : State → State → ℕ → Type 0
 SameXmm s t x = (getD (s .xmm) (2 * x) 0 ≡ getD (t .xmm) (2 * x) 0) × (getD (s .xmm) (2 * x + 1) 0 ≡ getD (t .xmm) (2 * x + 1) 0)
 
--- What every body leaves as the prolog left it. The codes `cs` ran from the machine `m` at entry to `p`; `n` is at the stop.
+-- 18.12, 18.13, 18.14: What every body leaves as the prolog left it. The codes `cs` ran from the machine `m` at entry to `p`; `n` is at the stop.
 pub record FreeBody (entry : Entry) (cs : List ChainCode) (frame : Frame) (m p n : Machine) : Type 0 where
   -- the frame register, where there is one
   pub frameRegister : frame .register ≢ 0 → gpr (n .registers) (frame .register) ≡ gpr (p .registers) (frame .register)
@@ -224,7 +224,7 @@ pub record FreeBody (entry : Entry) (cs : List ChainCode) (frame : Frame) (m p n
   -- the return address, or the machine frame that the processor pushed
   pub wordsOfEntry : Every (SameWord n p) (entryWords entry m)
 
--- A body that changes of the registers only what the prolog kept for the caller.
+-- 18.12, 18.15: A body that changes of the registers only what the prolog kept for the caller.
 pub record Body (entry : Entry) (cs : List ChainCode) (frame : Frame) (m p n : Machine) : Type 0 where
   pub free : FreeBody entry cs frame m p n
   -- each general register that no code pushes or saves, RSP aside
@@ -240,7 +240,7 @@ pub record Same (n p : Machine) : Type 0 where
   pub xmm : n .registers .xmm ≡ p .registers .xmm
   pub memory : (x : ℕ) → SameWord n p x
 
--- A function that was entered at `m` is stopped at `n`: inside its prolog, at a distance; or at or past the end of the prolog, after a body.
+-- 18.11: A function that was entered at `m` is stopped at `n`: inside its prolog, at a distance; or at or past the end of the prolog, after a body.
 pub data Stop (entry : Entry) (a : Arrays) (d : Distance) (m n : Machine) : Type 0 where
   inside : Same n (run entry (ranOf d a) m) → Stop entry a d m n
   after :
@@ -276,7 +276,7 @@ pub record Reaches (entry : Entry) (a : Arrays) (d : Distance) (m n : Machine) :
 abbrev pub Holds : Window → Memory → List ℕ → Type 0
 Holds w memory xs = Every (λ x. wordAt w x ≡ held (memory x)) xs
 
--- A window as a driver has it: a part of the memory at a multiple of 8 that reaches from the lowest to the highest of some addresses.
+-- 19.3: A window as a driver has it: a part of the memory at a multiple of 8 that reaches from the lowest to the highest of some addresses.
 pub record Spans (w : Window) (memory : Memory) (xs : List ℕ) : Type 0 where
   pub aligned : w .base % 8 ≡ 0
   pub words : (i : ℕ) → i < length (w .words) → getD (w .words) i 0 ≡ memory (w .base + 8 * i)

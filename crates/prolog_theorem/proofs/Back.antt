@@ -14,8 +14,8 @@ use borrow.Author.Tests.{lt-ltb, le-leb}
 use Rattle.unwind_array.specs.Arrays.{Frame}
 use Rattle.unwind_state.specs.State.{gpr, rsp, withGpr, withRsp, withRip, withXmm, Window, held, wordAt}
 use Rattle.unwind_state.specs.declared.State.{State}
-use Rattle.unwind_step.specs.Undo.{Undone, on, caller, within, less, word, Base, undoPush}
-use Rattle.unwind_step.specs.Undo.{undoAlloc, undoSetFrame, undoSave, undoSaveXmm, undoMachineFrame, lastStep, andThen}
+use Rattle.unwind_undo.specs.Undo.{Undone, on, caller, within, less, word, Base, undoPush}
+use Rattle.unwind_undo.specs.Undo.{undoAlloc, undoSetFrame, undoSave, undoSaveXmm, undoMachineFrame, lastStep, andThen}
 use Rattle.prolog_machine.specs.Machine.{Machine, rspOf, xmmLow, xmmHigh, Entry, called, interrupted, errorBytes, pushFrame, callerOf}
 use Rattle.prolog_machine.specs.Stop.{NotIn, FitsEntry, Sized}
 use Rattle.prolog_theorem.proofs.Acts.{Act, push, alloc, frame, save, saveXmm, trap, acts}

@@ -15,7 +15,7 @@ use Rattle.answer.specs.Test.{pick}
 use Rattle.unwind_array.specs.Arrays.{Frame}
 use Rattle.unwind_state.specs.State.{gpr, rsp}
 use Rattle.unwind_state.specs.declared.State.{State}
-use Rattle.unwind_step.specs.Undo.{Undone, less, Base, BaseRule, baseWhenUndone}
+use Rattle.unwind_undo.specs.Undo.{Undone, less, Base, BaseRule, baseWhenUndone}
 use Rattle.prolog_machine.specs.Machine.{Machine, rspOf, Entry}
 use Rattle.prolog_theorem.proofs.Acts.{Act, push, alloc, frame, save, saveXmm, trap, acts, framed, phase, Good}
 use Rattle.prolog_theorem.proofs.Runs.{size-is, unframed}

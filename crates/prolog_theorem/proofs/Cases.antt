@@ -14,8 +14,8 @@ use Rattle.unwind_operation.specs.declared.UnwindOperation.the-variants.{SaveNo
 use Rattle.unwind_array.specs.Arrays.{Arrays, joinedOf}
 use Rattle.unwind_state.specs.State.{gpr, withRsp, withRip, withGpr, withXmm, wordAt}
 use Rattle.unwind_state.specs.declared.State.{State}
-use Rattle.unwind_step.specs.Undo.{caller, lost, undoOf, undoFrom, lastStep, baseWhenUndone, unwindOf}
-use Rattle.unwind_step.specs.Distance.{at, whole, undoneOf}
+use Rattle.unwind_undo.specs.Undo.{caller, lost, undoOf, undoFrom, lastStep, baseWhenUndone, unwindOf}
+use Rattle.unwind_undo.specs.Distance.{at, whole, undoneOf}
 use Rattle.strict_prolog.specs.Strict.{strict}
 use Rattle.prolog_machine.specs.Machine.{Machine, Entry, called, interrupted, run, withRegisters, withWord}
 use Rattle.prolog_machine.specs.Stop.{ranOf, Sized, Body, inside, after, freeAfter, Fits}

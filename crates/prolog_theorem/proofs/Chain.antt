@@ -14,8 +14,8 @@ use borrow.Author.Tests.{eqb-true, eqb-false, eq-eqb, not-true}
 use Rattle.unwind_array.specs.Arrays.{Frame, Arrays, ChainCode, outerCodes, joinedOf}
 use Rattle.unwind_state.specs.State.{gpr, rsp, Window, held}
 use Rattle.unwind_state.specs.declared.State.{State}
-use Rattle.unwind_step.specs.Undo.{Undone, caller, Base, BaseRule, baseWhenUndone, isSetFrame, framedBy, unwindOf}
-use Rattle.unwind_step.specs.Distance.{Distance, at, undoneOf}
+use Rattle.unwind_undo.specs.Undo.{Undone, caller, Base, BaseRule, baseWhenUndone, isSetFrame, framedBy, unwindOf}
+use Rattle.unwind_undo.specs.Distance.{Distance, at, undoneOf}
 use Rattle.unwind_operation.specs.declared.UnwindOperation.{UnwindOperation}
 use Rattle.unwind_operation.specs.declared.UnwindOperation.the-variants.{PushNonVolatile, Alloc, SetFPRegister, SaveNonVolatile, SaveXMM}
 use Rattle.unwind_operation.specs.declared.UnwindOperation.the-variants.{Epilog, SaveXMM128, PushMachineFrame, Noop}

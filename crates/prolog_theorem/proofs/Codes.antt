@@ -13,7 +13,7 @@ use Rattle.unwind_operation.specs.declared.UnwindOperation.the-variants.{Epilog
 use Rattle.unwind_array.specs.Arrays.{Frame, ChainCode}
 use Rattle.unwind_state.specs.State.{Window}
 use Rattle.unwind_state.specs.declared.State.{State}
-use Rattle.unwind_step.specs.Undo.{Undone, on, caller, lost, Base, placeOf, xmmNumber, undoOf, undoFrom, andThen, isSetFrame, framedBy}
+use Rattle.unwind_undo.specs.Undo.{Undone, on, caller, lost, Base, placeOf, xmmNumber, undoOf, undoFrom, andThen, isSetFrame, framedBy}
 use Rattle.strict_prolog.specs.Strict.{strictKind}
 use Rattle.prolog_machine.specs.Machine.{Machine, rspOf, Entry, called, interrupted, errorBytes, pushFrame, runOne, run}
 use Rattle.prolog_machine.specs.Stop.{Every, NotIn, neededWith, needed, frameWords, writtenBy, written, entryWords, FitsOne}

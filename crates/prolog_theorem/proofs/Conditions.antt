@@ -20,8 +20,8 @@ use Rattle.unwind_operation.specs.declared.UnwindOperation.the-variants.{PushNo
 use Rattle.unwind_operation.specs.declared.UnwindOperation.the-variants.{PushMachineFrame}
 use Rattle.unwind_array.specs.Arrays.{Arrays, joinedOf}
 use Rattle.unwind_state.specs.State.{Window, gpr, withXmm, wordAt}
-use Rattle.unwind_step.specs.Undo.{Undone, on, caller, lost, undoOf, undoFrom, lastStep, baseWhenUndone, unwindOf}
-use Rattle.unwind_step.specs.Distance.{Distance, at, whole, undoneOf}
+use Rattle.unwind_undo.specs.Undo.{Undone, on, caller, lost, undoOf, undoFrom, lastStep, baseWhenUndone, unwindOf}
+use Rattle.unwind_undo.specs.Distance.{Distance, at, whole, undoneOf}
 use Rattle.strict_prolog.specs.Strict.{conditions}
 use Rattle.prolog_machine.specs.Machine.{Memory, Machine, rspOf, Entry, called, run, callerOf, withRegisters}
 use Rattle.prolog_machine.specs.Stop.{Every, ranOf, Small, Sized, Entered, Stop, inside, after, Reaches, Fits, needed, Holds, Spans}

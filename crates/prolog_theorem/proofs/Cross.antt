@@ -11,7 +11,7 @@ use borrow.Author.Tests.{ltb-true, leb-true, eqb-true, eqb-false, not-true}
 use Rattle.unwind_operation.specs.declared.UnwindOperation.{UnwindOperation}
 use Rattle.unwind_operation.specs.declared.UnwindOperation.the-variants.{PushNonVolatile, Alloc, SetFPRegister, SaveNonVolatile, SaveXMM}
 use Rattle.unwind_operation.specs.declared.UnwindOperation.the-variants.{Epilog, SaveXMM128, PushMachineFrame, Noop}
-use Rattle.unwind_step.specs.Undo.{placeOf, isSetFrame}
+use Rattle.unwind_undo.specs.Undo.{placeOf, isSetFrame}
 use Rattle.strict_prolog.specs.Strict.{every, some, ranked, mayPrecede, descends, strictKind, sameTruth, pushes, sparesRsp}
 use Rattle.strict_prolog.specs.Strict.{Place, placesOf, apart, pairwiseApart, allocated, isMachineFrame, inAllocation, inHome}
 use Rattle.strict_prolog.specs.Strict as strict

@@ -14,7 +14,7 @@ use Rattle.unwind_operation.specs.declared.UnwindOperation.the-variants.{PushNo
 use Rattle.unwind_operation.specs.declared.UnwindOperation.the-variants.{Epilog, SaveXMM128, PushMachineFrame, Noop}
 use Rattle.unwind_operation.specs.declared.UnwindCode.{UnwindCode}
 use Rattle.unwind_array.specs.Arrays.{Frame, CodeArray, Arrays, ChainCode, codesFrom, codesIn, outerCodes, joinedOf}
-use Rattle.unwind_step.specs.Distance.{Distance, at, whole, hasRun, undoneOf}
+use Rattle.unwind_undo.specs.Distance.{Distance, at, whole, hasRun, undoneOf}
 use Rattle.strict_prolog.specs.Strict.{every, some, strictKind, isEpilog, offsetsOf, neverRise}
 use Rattle.strict_prolog.specs.Strict.{operationsOf, operationsIn, sameFrame}
 use Rattle.prolog_machine.specs.Stop.{reached, upTo, ranOf, PastProlog}

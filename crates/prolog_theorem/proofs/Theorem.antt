@@ -10,8 +10,8 @@ use Prim.Native.Nat.{ℕ, _+_, _%_, _^_, _<_}
 use Rattle.unwind_array.specs.Arrays.{Arrays, joinedOf}
 use Rattle.unwind_state.specs.State.{Window}
 use Rattle.unwind_state.specs.declared.State.{State}
-use Rattle.unwind_step.specs.Undo.{Undone, caller, baseWhenUndone, unwindOf}
-use Rattle.unwind_step.specs.Distance.{Distance, whole, undoneOf}
+use Rattle.unwind_undo.specs.Undo.{Undone, caller, baseWhenUndone, unwindOf}
+use Rattle.unwind_undo.specs.Distance.{Distance, whole, undoneOf}
 use Rattle.strict_prolog.specs.Strict.{strict}
 use Rattle.prolog_machine.specs.Machine.{Memory, Machine, rspOf, Entry, called, callerOf}
 use Rattle.prolog_machine.specs.Stop.{Every, Sized, Small, ranOf, PastProlog, needed, written, entryWords, Fits}

@@ -6,8 +6,8 @@ use mathlib.Core.List.{List, [], _∷_}
 use Rattle.unwind_array.specs.Arrays.{Arrays, ChainCode, joinedOf}
 use Rattle.unwind_state.specs.State.{Window}
 use Rattle.unwind_state.specs.declared.State.{State}
-use Rattle.unwind_step.specs.Undo.{Undone, on, caller, lost, baseWhenUndone, unwindOf}
-use Rattle.unwind_step.specs.Distance.{Distance, undoneOf}
+use Rattle.unwind_undo.specs.Undo.{Undone, on, caller, lost, baseWhenUndone, unwindOf}
+use Rattle.unwind_undo.specs.Distance.{Distance, undoneOf}
 use Rattle.strict_prolog.specs.Strict.{strict}
 use Rattle.prolog_machine.specs.Machine.{Memory, Machine, Entry, callerOf}
 use Rattle.prolog_machine.specs.Stop.{Every, Small, ranOf, needed, written, entryWords, Reaches, Holds}

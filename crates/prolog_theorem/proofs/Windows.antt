@@ -14,8 +14,8 @@ use Rattle.unwind_operation.specs.declared.UnwindOperation.the-variants.{PushNo
 use Rattle.unwind_operation.specs.declared.UnwindOperation.the-variants.{Epilog, SaveXMM128, PushMachineFrame, Noop}
 use Rattle.unwind_array.specs.Arrays.{Frame, Arrays, ChainCode, codesIn, outerCodes, joinedOf}
 use Rattle.unwind_state.specs.State.{Window, held, wordAt}
-use Rattle.unwind_step.specs.Undo.{placeOf}
-use Rattle.unwind_step.specs.Distance.{Distance}
+use Rattle.unwind_undo.specs.Undo.{placeOf}
+use Rattle.unwind_undo.specs.Distance.{Distance}
 use Rattle.strict_prolog.specs.Strict.{every, aligned, strict}
 use Rattle.prolog_machine.specs.Machine.{Memory, Machine, rspOf, Entry, called, interrupted, errorBytes, pushFrame}
 use Rattle.prolog_machine.specs.Stop.{Every, Sized, Small, reached, upTo, ranOf, needed, FitsEntry, Fits, Entered, Holds, Spans}

@@ -8,7 +8,7 @@ use Rattle.unwind_operation.specs.declared.UnwindOperation.{UnwindOperation}
 use Rattle.unwind_operation.specs.declared.UnwindOperation.the-variants.{PushNonVolatile, Alloc, SetFPRegister, SaveNonVolatile, SaveXMM}
 use Rattle.unwind_operation.specs.declared.UnwindOperation.the-variants.{Epilog, SaveXMM128, PushMachineFrame, Noop}
 use Rattle.unwind_array.specs.Arrays.{Frame, ChainCode}
-use Rattle.unwind_step.specs.Undo.{placeOf, xmmNumber}
+use Rattle.unwind_undo.specs.Undo.{placeOf, xmmNumber}
 use Rattle.prolog_machine.specs.Machine.{Machine, rspOf, write, xmmLow, Entry, called, interrupted, runOne, run}
 use Rattle.prolog_machine.specs.Stop.{NotIn, writtenBy, written, FitsOne, Fits}
 use Rattle.prolog_theorem.proofs.Acts.{write-other}

@@ -10,7 +10,7 @@ use Rattle.unwind_state.specs.declared.State.{State}
 use Rattle.prolog_machine.specs.Machine.{Machine, Entry, callerOf}
 use Rattle.prolog_machine.specs.Stop.{In, NotIn, generalKept, xmmKept, SameXmm}
 
--- RIP, RSP and each register that a code pushes or saves are the caller's, and each other register is as it was at the stop
+-- 19.15: RIP, RSP and each register that a code pushes or saves are the caller's, and each other register is as it was at the stop
 pub record Recovered (entry : Entry) (cs : List ChainCode) (m n : Machine) (t : State) : Type 0 where
   pub rip : t .rip ≡ callerOf entry m .rip
   pub stackPointer : rsp t ≡ rsp (callerOf entry m)

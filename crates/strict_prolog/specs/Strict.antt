@@ -10,7 +10,7 @@ use Rattle.unwind_operation.specs.declared.UnwindOperation.{UnwindOperation}
 use Rattle.unwind_operation.specs.declared.UnwindOperation.the-variants.{PushNonVolatile, Alloc, SetFPRegister, SaveNonVolatile, SaveXMM, Epilog, SaveXMM128, PushMachineFrame, Noop}
 use Rattle.unwind_operation.specs.declared.UnwindCode.{UnwindCode}
 use Rattle.unwind_array.specs.Arrays.{Frame, CodeArray, Arrays, allOf}
-use Rattle.unwind_step.specs.Undo.{placeOf, isSetFrame}
+use Rattle.unwind_undo.specs.Undo.{placeOf, isSetFrame}
 
 -- it holds of every element
 abbrev pub every : {A : Type 0} → (A → Bool) → List A → Bool
@@ -30,11 +30,11 @@ abbrev pub operationsIn : List CodeArray → List UnwindOperation
 operationsIn [] = []
 operationsIn (a ∷ more) = operationsOf (a .codes) ++ operationsIn more
 
--- all operations of the chain, the last of the prolog first
+-- 17.14: all operations of the chain, the last of the prolog first
 abbrev pub operations : Arrays → List UnwindOperation
 operations a = operationsIn (allOf a)
 
--- 1. order: in the prolog a machine frame (0) comes before pushes (1), these before allocations (2), these before a set frame (3), and that
+-- 17.1: order: in the prolog a machine frame (0) comes before pushes (1), these before allocations (2), these before a set frame (3), and that
 -- before saves (4); there is one machine frame and one set frame at most. Epilogs and operations without effect have no place in it.
 abbrev pub ranked : List UnwindOperation → List ℕ
 ranked [] = []
@@ -60,7 +60,7 @@ descends (a ∷ b ∷ rs) = mayPrecede a b && descends (b ∷ rs)
 abbrev pub inOrder : Arrays → Bool
 inOrder a = descends (ranked (operations a))
 
--- 2. offsets: in an array, epilogs aside, code offsets never rise
+-- 17.2, 17.15: offsets: in an array, epilogs aside, code offsets never rise
 abbrev pub isEpilog : UnwindOperation → Bool
 isEpilog (PushNonVolatile r) = false
 isEpilog (Alloc n) = false
@@ -84,11 +84,11 @@ neverRise (a ∷ b ∷ ns) = leb b a && neverRise (b ∷ ns)
 abbrev pub offsetsFall : Arrays → Bool
 offsetsFall a = every (λ x. neverRise (offsetsOf (x .codes))) (allOf a)
 
--- 3. prolog size: and none of them passes the prolog size
+-- 17.3: prolog size: and none of them passes the prolog size
 abbrev pub offsetsInProlog : Arrays → Bool
 offsetsInProlog a = every (λ x. every (λ n. leb n (x .prolog)) (offsetsOf (x .codes))) (allOf a)
 
--- 4. epilogs are only at the start of an array
+-- 17.4: epilogs are only at the start of an array
 abbrev pub noEpilog : List UnwindCode → Bool
 noEpilog [] = true
 noEpilog (c ∷ cs) = not (isEpilog (c .operation)) && noEpilog cs
@@ -100,7 +100,7 @@ epilogsAtStart (c ∷ cs) = pick (isEpilog (c .operation)) (epilogsAtStart cs) (
 abbrev pub epilogsFirst : Arrays → Bool
 epilogsFirst a = every (λ x. epilogsAtStart (x .codes)) (allOf a)
 
--- 5. kinds: no save of half an XMM register, and nothing without effect
+-- 17.5: kinds: no save of half an XMM register, and nothing without effect
 abbrev pub strictKind : UnwindOperation → Bool
 strictKind (PushNonVolatile r) = true
 strictKind (Alloc n) = true
@@ -115,7 +115,7 @@ strictKind Noop = false
 abbrev pub strictKinds : Arrays → Bool
 strictKinds a = every strictKind (operations a)
 
--- 6. agreement: all infos name the same frame register and offset
+-- 17.6: agreement: all infos name the same frame register and offset
 abbrev pub sameFrame : Frame → CodeArray → Bool
 sameFrame f x = eqb (x .frame .register) (f .register) && eqb (x .frame .offset) (f .offset)
 
@@ -126,11 +126,11 @@ framesAgree a = every (sameFrame (a .found .frame)) (a .outer)
 abbrev pub frameRegister : Arrays → ℕ
 frameRegister a = a .found .frame .register
 
--- 7. it is not RSP
+-- 17.7: it is not RSP
 abbrev pub frameIsNotRsp : Arrays → Bool
 frameIsNotRsp a = not (eqb (frameRegister a) 4)
 
--- 8. it is named exactly where there is a set frame
+-- 17.8: it is named exactly where there is a set frame
 abbrev pub setsFrame : Arrays → Bool
 setsFrame a = some isSetFrame (operations a)
 
@@ -141,7 +141,7 @@ sameTruth false b = not b
 abbrev pub frameIsSet : Arrays → Bool
 frameIsSet a = sameTruth (not (eqb (frameRegister a) 0)) (setsFrame a)
 
--- 9. and it was pushed before: pushes come before a set frame
+-- 17.9: and it was pushed before: pushes come before a set frame
 abbrev pub pushes : ℕ → UnwindOperation → Bool
 pushes f (PushNonVolatile r) = eqb (r .0) f
 pushes f (Alloc n) = false
@@ -156,7 +156,7 @@ pushes f Noop = false
 abbrev pub frameIsPushed : Arrays → Bool
 frameIsPushed a = eqb (frameRegister a) 0 || some (pushes (frameRegister a)) (operations a)
 
--- 10. RSP is never pushed or saved
+-- 17.10: RSP is never pushed or saved
 abbrev pub sparesRsp : UnwindOperation → Bool
 sparesRsp (PushNonVolatile r) = not (eqb (r .0) 4)
 sparesRsp (Alloc n) = true
@@ -171,7 +171,7 @@ sparesRsp Noop = true
 abbrev pub rspIsSpared : Arrays → Bool
 rspIsSpared a = every sparesRsp (operations a)
 
--- 11. allocations and places of general registers are multiples of 8, places of XMM registers of 16
+-- 17.11: allocations and places of general registers are multiples of 8, places of XMM registers of 16
 abbrev pub aligned : UnwindOperation → Bool
 aligned (PushNonVolatile r) = true
 aligned (Alloc n) = eqb (n % 8) 0
@@ -186,7 +186,7 @@ aligned Noop = true
 abbrev pub allAligned : Arrays → Bool
 allAligned a = every aligned (operations a)
 
--- the bytes that a save takes above the end of the allocation: where they start, and how many they are
+-- 17.16: the bytes that a save takes above the end of the allocation: where they start, and how many they are
 pub record Place : Type 0 where
   pub start : ℕ
   pub width : ℕ
@@ -203,7 +203,7 @@ placesOf (SaveXMM128 r o ∷ os) = record { start = placeOf o; width = 16 } ∷ 
 placesOf (PushMachineFrame e ∷ os) = placesOf os
 placesOf (Noop ∷ os) = placesOf os
 
--- 12. places of saves do not meet one another
+-- 17.12: places of saves do not meet one another
 abbrev pub apart : Place → Place → Bool
 apart p q = leb (p .start + p .width) (q .start) || leb (q .start + q .width) (p .start)
 
@@ -214,7 +214,7 @@ pairwiseApart (p ∷ ps) = every (apart p) ps && pairwiseApart ps
 abbrev pub placesApart : Arrays → Bool
 placesApart a = pairwiseApart (placesOf (operations a))
 
--- 13. they lie within the allocation or, without a machine frame, within the 32 bytes above the return address
+-- 17.13, 17.17: they lie within the allocation or, without a machine frame, within the 32 bytes above the return address
 abbrev pub allocated : List UnwindOperation → ℕ
 allocated [] = 0
 allocated (PushNonVolatile r ∷ os) = allocated os
@@ -261,7 +261,7 @@ inHome os p =
 abbrev pub placesInside : Arrays → Bool
 placesInside a = every (λ p. inAllocation (operations a) p || inHome (operations a) p) (placesOf (operations a))
 
--- the conditions in order
+-- 17.1 to 17.13: the conditions in order
 abbrev pub conditions : Arrays → List Bool
 conditions a =
     inOrder a

@@ -1,3 +1,3 @@
--- `Undo` says what each operation undoes, and what a list of codes does; `Distance` which codes of a chain are undone at a stop.
-pub mod Undo
-pub mod Distance
+-- `Step` is the unwinding step, from a file, its opened exception data and an address; `Answers` what its answer stands for.
+pub mod Step
+pub mod Answers
