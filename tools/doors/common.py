@@ -21,6 +21,21 @@ def words_at(data, at, n):
     return struct.unpack_from(f'<{n}I', data, at) if at + 4 * n <= len(data) else None
 
 
+def refusal(answer):
+    """An answer of docs/SPEC.md as goblin gives it: a refusal has no number."""
+    return 'no' if answer.startswith('no') else answer
+
+
+def written(data, at, *fields):
+    """What goblin's derived writer leaves: field by field, up to the first that does not fit."""
+    for field in fields:
+        if at + len(field) > len(data):
+            return f'no {hexed(data)}'
+        data = data[:at] + field + data[at + len(field):]
+        at += len(field)
+    return f'ok {hexed(data)}'
+
+
 def noise(rng, n):
     return bytes(rng.getrandbits(8) for _ in range(n))
 

@@ -1,7 +1,8 @@
 """PE headers, sections and mapping, against the parts of goblin's `pe`."""
+import re
 import struct
 
-from .common import around, hexed, noise, taken
+from .common import around, hexed, joined, noise, refusal, taken, written
 
 NAME = 'image'
 LIMIT = 96
@@ -151,6 +152,86 @@ def expected(line):
 
 # Where goblin answers otherwise.
 
+def read_name(name):
+    """goblin takes a name that starts with a slash for an offset, in decimal or, after two slashes, in base64; others it refuses."""
+    if name[:1] != b'/':
+        return True
+    form = rb'/[A-Za-z0-9+/]*' if name[1:2] == b'/' else rb'\+?[0-9]+'
+    return re.fullmatch(form, name[1:].split(b'\0')[0]) is not None
+
+
+def goblin_rows(data, table, count):
+    """The rows of a table that goblin reads, up to the first that it refuses."""
+    rows = []
+    for i in range(count):
+        fields = row(data, table + 40 * i)
+        if fields is None or not read_name(fields[0]):
+            break
+        rows.append(fields)
+    return rows
+
+
+def goblin_mapped(rows, alignment, address):
+    if alignment == 0 or alignment & (alignment - 1):
+        return None
+    return next((fields[4] + address - fields[2] for fields in rows if fields[2] <= address < fields[2] + readable(fields, alignment)), None)
+
+
+def goblin_optional(data, at):
+    """goblin needs every byte up to the last stated directory, 16 of them at most, and does not look at the stated size."""
+    magic = field(data, at, 'H')
+    if magic not in (0x10B, 0x20B):
+        return None
+    end = at + (96 if magic == 0x10B else 112)
+    alignment, count = field(data, at + 36, 'I'), field(data, end - 4, 'I')
+    if count is None or count > 16 or end + 8 * count > len(data):
+        return None
+    exceptions = struct.unpack_from('<II', data, end + 24) if count > 3 else (0, 0)
+    return [magic, alignment, count, *exceptions]
+
+
+def goblin_image(data):
+    """The headers by goblin: where the COFF header is, its numbers, those of the optional header, and the rows; None where it refuses."""
+    if dos(data, 0)[0].startswith('no'):
+        return None
+    pointer = field(data, 60, 'I')
+    if field(data, pointer, 'I') != 0x4550 or pointer + 24 > len(data):
+        return None
+    coff_ = struct.unpack_from('<HHIIIHH', data, pointer + 4)
+    optional_ = goblin_optional(data, pointer + 24)
+    rows = goblin_rows(data, pointer + 24 + coff_[5], coff_[1])
+    return None if optional_ is None or len(rows) < coff_[1] else (pointer, coff_, optional_, rows)
+
+
+def goblin(line):
+    """goblin's answer where it is another."""
+    door, numbers, data = taken(line)
+    if door == 'dos':
+        return expected(line) if header_alone(line) is False else 'no'
+    if door == 'dos_put':
+        signature, at, from_ = numbers
+        header = struct.pack('<H', signature) + data[from_ + 2:from_ + 64]
+        return written(data, at, *(header[i:i + 2] for i in range(0, 60, 2)), header[60:])
+    if door == 'coff':
+        return 'no' if numbers[0] + 20 > len(data) else joined(*struct.unpack_from('<HHIIIHH', data, numbers[0]))
+    if door == 'optional':
+        found = goblin_optional(data, numbers[0])
+        return 'no' if found is None else joined(*found)
+    if door == 'section':
+        table, _, index = numbers
+        fields = row(data, table + 40 * index)
+        return 'no' if fields is None or not read_name(fields[0]) else f'ok {hexed(fields[0])} ' + ' '.join(map(str, fields[1:]))
+    if door == 'find_offset':
+        table, count, alignment, address = numbers
+        offset = goblin_mapped(goblin_rows(data, table, count), alignment, address)
+        return 'no' if offset is None else joined(offset)
+    image = goblin_image(data)
+    if image is None:
+        return 'no'
+    pointer, coff_, optional_, _ = image
+    return joined(pointer, coff_[0], coff_[1], pointer + 24, coff_[5], *optional_, pointer + 24 + coff_[5])
+
+
 def placed(line):
     """Where the COFF header and the optional header stand, and the stated optional size; None where there is none."""
     door, numbers, data = taken(line)
@@ -175,6 +256,13 @@ def over_limit(line):
 def slash_name(line):
     """A row that is looked at has a name that starts with a slash."""
     return any(fields[0][:1] == b'/' for fields in answered(line)[1])
+
+
+def header_alone(line):
+    """A whole DOS header whose last field does not lead to the PE signature."""
+    door, numbers, data = taken(line)
+    part = data[numbers[0]:] if door == 'dos' and expected(line).startswith('ok') else None
+    return part is not None and field(part, field(part, 60, 'I'), 'I') != 0x4550
 
 
 def partial(line):
@@ -203,12 +291,13 @@ def all_directories(line):
 
 
 RULES = [
-    ('D1', partial, expected),
-    ('D6', over_limit, expected),
-    ('D7', slash_name, expected),
-    ('D12', other_signature, expected),
-    ('D13', outside_size, expected),
-    ('D14', all_directories, expected),
+    ('D1', partial),
+    ('D6', over_limit),
+    ('D7', slash_name),
+    ('D12', other_signature),
+    ('D13', outside_size),
+    ('D14', all_directories),
+    ('D18', header_alone),
 ]
 
 
@@ -292,6 +381,16 @@ def whole_images(rng):
     for n in range(66):
         yield f'dos 0 {header[:1 + 2 * n]}'
         yield f'coff 0 {header[:1 + 2 * n]}'
+    yield from led_to_a_signature()
+
+
+def led_to_a_signature():
+    """A DOS header whose last field leads to the PE signature, cut at each byte of that, and another signature."""
+    signed = struct.pack('<30HI', 0x5A4D, *range(1, 30), 0x80) + bytes(64) + b'PE\0\0'
+    for n in range(5):
+        yield f'dos 0 {hexed(signed[:len(signed) - n])}'
+        yield f'dos {n} {hexed(bytes(n) + signed)}'
+    yield f'dos 0 {hexed(signed[:-4] + b"PE  ")}'
 
 
 def some_header(rng):

@@ -1,7 +1,7 @@
 """GNU symbol version tables, against the sections' iterators. `part` is our answer 1 beside what was listed, which is no refusal."""
 import struct
 
-from .common import around, hexed, noise
+from .common import around, hexed, noise, refusal
 
 NAME = 'symver'
 DOORS = ['versym_count', 'versym', 'verdefs', 'verdauxs', 'verneeds', 'vernauxs']
@@ -42,7 +42,7 @@ def listing(rows, cut):
     return ' '.join(words + [str(n) for _, fields in rows for n in fields])
 
 
-def expected(line):
+def expected(line, limit=65535):
     door, big, numbers, data = taken(line)
     order = '>' if big else '<'
     start, size = numbers[:2]
@@ -56,7 +56,7 @@ def expected(line):
         value = struct.unpack_from(order + 'H', data, start + 2 * numbers[2])[0]
         return f'ok {value >> 15} {value & 0x7FFF}'
     count, last = numbers[2:]
-    if count > 65535:
+    if count > limit:
         return 'no 3'
     if start + size > len(data):
         return 'no 1'
@@ -72,13 +72,19 @@ def expected(line):
     return listing(*walk(order, aux_form, next_, part[at + fields[aux]:], fields[number]))
 
 
+def goblin(line):
+    """goblin's answer where it is another: it walks as many as the section states."""
+    answer = expected(line, 2 ** 32 - 1)
+    return 'ok ' + answer[5:] if answer.startswith('part ') else refusal(answer)
+
+
 def over_limit(line):
     door, _, numbers, _ = taken(line)
     return not door.startswith('versym') and numbers[2] > 65535
 
 
 RULES = [
-    ('D11', over_limit, expected),
+    ('D11', over_limit),
 ]
 
 

@@ -1,6 +1,6 @@
 //! x64 exception data: lookup, unwind info, operations and scope tables.
 use crate::request::{hex, Request};
-use crate::told;
+use crate::{told, told_found};
 use goblin::pe::data_directories::DataDirectory;
 use goblin::pe::exception::{
     ExceptionData, Register, RuntimeFunction, ScopeTableEntry, StackFrameOffset, UnwindCode, UnwindHandler, UnwindInfo, UnwindOperation,
@@ -207,7 +207,7 @@ pub fn answer(request: &Request) -> Option<String> {
             let bytes = request.bytes_after(3)?;
             let data = data(bytes, request.place(0), request.place(1))?;
             let address = u32::try_from(request.number(2)).ok()?;
-            told(data.find_function(address).map_err(|_| ()).and_then(|found| found.ok_or(())), |f| function_values(&f))
+            told_found(data.find_function(address), |f| function_values(&f))
         }
         "exceptions" => {
             let bytes = request.bytes_after(0)?;

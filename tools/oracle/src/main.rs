@@ -1,5 +1,6 @@
-//! Answers request lines (docs/ASK.md) by goblin 0.10.7: `ok` with the values, `no` where it refuses, `panic`, `hang` where it does
-//! not end in time, `none` where it has no counterpart of the door.
+//! Answers request lines (docs/ASK.md) by goblin 0.10.7: `ok` with the values, `no` where it refuses, `absent` where it has nothing to give
+//! and no error, `panic`, `hang` where it does not end in time, `none` where it has no counterpart of the door. `fault` is a panic of this
+//! program's own code.
 //!
 //! The process that reads the lines hands each to a worker, a second process of the same program, and starts a new one where the
 //! worker hangs.
@@ -13,6 +14,7 @@ mod symver;
 use request::Request;
 use std::io::{BufRead, BufReader, Write};
 use std::process::{Child, ChildStdin, Command, Stdio};
+use std::sync::atomic::{AtomicBool, Ordering};
 use std::sync::mpsc::{channel, Receiver};
 use std::time::Duration;
 
@@ -38,8 +40,22 @@ pub fn told<T, E>(result: Result<T, E>, values: impl FnOnce(T) -> Vec<String>) -
     }
 }
 
+/// The same, of a door that may have nothing to give.
+pub fn told_found<T, E>(result: Result<Option<T>, E>, values: impl FnOnce(T) -> Vec<String>) -> String {
+    match result {
+        Ok(None) => "absent".to_string(),
+        Ok(Some(value)) => told(Ok::<T, E>(value), values),
+        Err(_) => "no".to_string(),
+    }
+}
+
+/// Whether the last panic was in a file of this program, not of goblin or of what it is built on.
+static OWN: AtomicBool = AtomicBool::new(false);
+
 fn work() {
-    std::panic::set_hook(Box::new(|_| {}));
+    std::panic::set_hook(Box::new(|info| {
+        OWN.store(info.location().map_or(true, |place| !place.file().starts_with('/')), Ordering::SeqCst);
+    }));
     let mut file = Vec::new();
     let stdin = std::io::stdin();
     let mut stdout = std::io::stdout();
@@ -57,7 +73,7 @@ fn work() {
             match Request::parse(&line, &file) {
                 Some(request) => std::panic::catch_unwind(|| answer(&request))
                     .map(|reply| reply.unwrap_or("none".to_string()))
-                    .unwrap_or("panic".to_string()),
+                    .unwrap_or_else(|_| if OWN.load(Ordering::SeqCst) { "fault" } else { "panic" }.to_string()),
                 None => "?".to_string(),
             }
         };

@@ -9,8 +9,8 @@ use goblin::pe::section_table::SectionTable;
 use goblin::pe::utils::find_offset;
 use scroll::{Pread, Pwrite, LE};
 
-/// The DOS header at `at`, alone: `DosHeader::parse` looks at the PE signature too, so one is put behind the header and pointed to.
-fn dos(bytes: &[u8], at: usize) -> Result<DosHeader, ()> {
+/// A DOS header to write, from the bytes at `at`: `DosHeader::parse` looks at the PE signature too, so one is put after it and pointed to.
+fn dos_to_write(bytes: &[u8], at: usize) -> Result<DosHeader, ()> {
     let mut alone = bytes.get(at..).ok_or(())?.to_vec();
     alone.truncate(64);
     let mut pointer = 0;
@@ -136,11 +136,11 @@ pub fn answer(request: &Request) -> Option<String> {
     Some(match request.door.as_str() {
         "dos" => {
             let bytes = request.bytes_after(1)?;
-            told(dos(bytes, request.place(0)), |h| dos_values(&h))
+            told(bytes.get(request.place(0)..).ok_or(()).and_then(|part| DosHeader::parse(part).map_err(|_| ())), |h| dos_values(&h))
         }
         "dos_put" => {
             let bytes = request.bytes_after(3)?;
-            let Ok(mut header) = dos(bytes, request.place(2)) else { return Some(format!("no {}", hex(bytes))) };
+            let Ok(mut header) = dos_to_write(bytes, request.place(2)) else { return Some(format!("no {}", hex(bytes))) };
             header.signature = request.number(0) as u16;
             wrote(bytes, |out| out.pwrite_with(header, request.place(1), LE))
         }
