@@ -1,3 +1,4 @@
--- `Step` is the unwinding step, from a file, its opened exception data and an address; `Answers` what its answer stands for.
+-- `Step` is the unwinding step; `Answers` what its answers stand for; `Code` how the answers on the way stand for a definition's.
 pub mod Step
 pub mod Answers
+pub mod Code
