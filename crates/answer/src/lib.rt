@@ -1,4 +1,6 @@
 // The answers of every door: why one refuses, the refusal that readers hand on unchanged, and the words for each number.
+#![tactic(auto)]
+
 ghost use Rattle.std.specs.Prelude.{◌≡◌, ◌+◌};
 ghost use Rattle.answer.specs.Answer.{refuse_of, cut_of, beyond_of, number_of};
 ghost use Rattle.answer.specs.Words.{words_of};
@@ -44,6 +46,7 @@ pub fn refuse(reason: Reason) -> Refusal
 }
 
 // The refusal where the bytes end before a field of `width` bytes at `at` does.
+#[tactic(auto, using(crate::proofs::Laws::cut_within, crate::proofs::Laws::cut_beyond))]
 pub fn cut(at: usize, width: usize) -> Refusal
     ensures { result ≡ cut_of (at + width) }
 {
@@ -56,6 +59,7 @@ pub fn cut(at: usize, width: usize) -> Refusal
 }
 
 // The refusal where something is missing that no more bytes would bring: a field past 64 bits, or slots past their count.
+#[tactic(auto, unfolding(crate::specs::Answer::beyond_of))]
 pub fn beyond() -> Refusal
     ensures { result ≡ beyond_of }
 {

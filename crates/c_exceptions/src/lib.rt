@@ -1,5 +1,7 @@
 // The C interface of exception data, its records and lookup, declared in include/hullsift.h: each function calls a door, stores its values, and
 // returns the number of its answer. A refusal sets the values to 0 and leaves lent bytes as they were.
+#![tactic(auto)]
+
 ghost use Rattle.std.specs.Prelude.{◌≡◌, [], ◌∷◌, ◌++◌, get_or, take};
 ghost use Rattle.answer.specs.Answer.{number, values};
 ghost use Rattle.c_exceptions.specs.Stated.{Reads, check_and_find_by, find_function_by, get_function_by};

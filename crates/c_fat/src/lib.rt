@@ -1,5 +1,7 @@
 // The C interface of fat Mach-O files, declared in include/hullsift.h: each function calls a door, stores its values, and returns the number of its
 // answer. A refusal sets the values to 0.
+#![tactic(auto)]
+
 ghost use Rattle.std.specs.Prelude.{◌≡◌};
 ghost use Rattle.answer.specs.Answer.{number, values};
 ghost use Rattle.fat.specs.Answers.{answer_open_fat, count_open_fat};

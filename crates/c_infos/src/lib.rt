@@ -1,4 +1,6 @@
 // Unwind infos as the numbers that C is handed: shared by the crates of the C interface.
+#![tactic(auto)]
+
 ghost use Rattle.std.specs.Prelude.{◌≡◌};
 ghost use Rattle.unwind_info.specs.Answers.{follows_numbers, info_numbers};
 

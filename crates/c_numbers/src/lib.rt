@@ -1,4 +1,6 @@
 // What several crates of the C interface share: answers, and a yes or no, as the numbers that C is handed.
+#![tactic(auto)]
+
 ghost use Rattle.std.specs.Prelude.{◌≡◌};
 ghost use Rattle.answer.specs.Answer.{number, values};
 ghost use Rattle.c_numbers.specs.Bit.{bit_of};

@@ -1,4 +1,6 @@
 // Opened exception data as a C caller states it: six numbers, whatever they are.
+#![tactic(auto)]
+
 ghost use Rattle.std.specs.Prelude.{◌≡◌};
 ghost use Rattle.c_opened.specs.Opened.{read_opened_of};
 

@@ -1,5 +1,7 @@
 // The C interface of PE headers, sections and mapping, declared in include/hullsift.h: each function calls a door, stores its values, and returns
 // the number of its answer. A refusal sets the values to 0 and leaves lent bytes as they were.
+#![tactic(auto)]
+
 ghost use Rattle.std.specs.Prelude.{◌≡◌};
 ghost use Rattle.answer.specs.Answer.{number, values};
 ghost use Rattle.c_pe.specs.Numbers.{dos_header_of, halves_of, header_numbers, optional_numbers};

@@ -1,4 +1,6 @@
 // The section table as a C caller states it: three numbers, whatever they are.
+#![tactic(auto)]
+
 ghost use Rattle.std.specs.Prelude.{◌≡◌};
 ghost use Rattle.c_sections.specs.Sections.{small_of, read_sections_of};
 

@@ -1,5 +1,7 @@
 // The C interface of unwind infos and their codes, declared in include/hullsift.h: each function calls a door, stores its values, and returns the
 // number of its answer. A refusal sets the values to 0.
+#![tactic(auto)]
+
 ghost use Rattle.std.specs.Prelude.{◌≡◌, ◌∷◌};
 ghost use Rattle.answer.specs.Answer.{number, values};
 ghost use Rattle.unwind_codes.specs.Answers.{answer_check_info, answer_read_code, count_check_info, count_read_code};

@@ -1,5 +1,7 @@
 // The C interface of GNU symbol versions, declared in include/hullsift.h: each function calls a door, stores its values, and returns the number of
 // its answer. A refusal sets the values to 0 and leaves the lent list as it was.
+#![tactic(auto)]
+
 ghost use Rattle.std.specs.Prelude.{◌≡◌};
 ghost use Rattle.answer.specs.Answer.{number, values};
 ghost use Rattle.verdef.specs.Verdef.{auxiliaries_of as definition_auxiliaries_of, auxiliaries_out as definition_auxiliaries_out, definitions_of, definitions_out};

@@ -1,4 +1,6 @@
 // A place in lent bytes, by value: each read hands back the number and the place past it, or the refusal of the field.
+#![tactic(auto)]
+
 ghost use Rattle.std.specs.Prelude.{◌≡◌, false};
 ghost use Rattle.cursor.specs.Next.{new_of, next_of, taken_u8, taken_u16, taken_u32, taken_u64};
 

@@ -1,4 +1,6 @@
 // Prints what the file that argument 1 names is. Argument 2, `--large`, says that the stack was raised to 260 MiB and more.
+#![tactic(auto)]
+
 use answer::Refusal;
 use fat::OpenFat;
 use fat_member::{FatArch, ReadFatArch};

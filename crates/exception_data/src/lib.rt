@@ -1,4 +1,6 @@
 // The exception data of an image: opening it, and the record at an index of its table.
+#![tactic(auto)]
+
 ghost use Rattle.std.specs.Prelude.{◌≡◌};
 ghost use Rattle.exception_data.specs.Exception.{empty_of, open_of, get_function_of};
 

@@ -1,4 +1,6 @@
 // A fat Mach-O file (mach-o/fat.h): opened, with every member checked; a member by its index; and its bytes.
+#![tactic(auto)]
+
 ghost use Rattle.std.specs.Prelude.{◌≡◌};
 ghost use Rattle.fat_member.specs.FatArch.{Inside};
 ghost use Rattle.fat.specs.Fat.{header_in, open_of, member_at_of, bytes_at_of, start_of};

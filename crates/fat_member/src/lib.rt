@@ -1,4 +1,6 @@
 // A member of a fat Mach-O file (struct fat_arch), read and checked.
+#![tactic(auto)]
+
 ghost use Rattle.std.specs.Prelude.{◌≡◌, ◌+◌, ◌∷◌, [], leb};
 ghost use Rattle.fat_member.specs.FatArch.{fat_arch, arch_of, read_of};
 

@@ -5,7 +5,7 @@ use mathlib.Core.List.{List, [], ◌∷◌, ◌++◌}
 use mathlib.Core.Logic.{◌⊎◌, inl, inr, ⊎_elim}
 use mathlib.Core.Bool.{Bool, true, false}
 use Prim.Native.Nat.{ℕ, suc, ◌+◌, ◌^◌, ◌≤◌, ◌<◌}
-use native.Mathlib.Nat.{add_zero}
+use native.Mathlib.Nat.{add-zero}
 use native.Mathlib.Omega.{arith}
 use lib.ListN.{length, set, length-append}
 use lib.Seq.{sets, sets-eq, length-sets}
@@ -146,7 +146,7 @@ unfolding put
 put_sets o at bs h = sets-eq bs o at h
 
 sets_both : (o : List ℕ) (at : ℕ) (a b : List ℕ) → sets (sets o at a) (at + length a) b ≡ sets o at (a ++ b)
-sets_both o at [] b = rw (add_zero at)
+sets_both o at [] b = rw (add-zero at)
 sets_both o at (x ∷ a) b = let e : at + suc (length a) ≡ suc at + length a = omega arith in rw e (sets_both (set o at x) (suc at) a b)
 
 pub length_put : (o : List ℕ) (at : ℕ) (bs : List ℕ) → at + length bs ≤ length o → length (put o at bs) ≡ length o

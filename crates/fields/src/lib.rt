@@ -1,5 +1,7 @@
 // Numbers of 8, 16, 32 and 64 bits at an offset of lent bytes, in either order: read, and written. Every function answers on
 // every input; an offset plus a width never wraps.
+#![tactic(auto)]
+
 ghost use Rattle.std.specs.Prelude.{◌≡◌, ◌+◌, ◌≤◌, false, length};
 ghost use Rattle.fields.specs.Number.{bytes_of, joined};
 ghost use Rattle.fields.specs.Field.{fits_of, read_of, put, write_of, write_out};

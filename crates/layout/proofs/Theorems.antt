@@ -5,7 +5,7 @@ use mathlib.Core.List.{List, [], ◌∷◌, ◌++◌, append_assoc}
 use mathlib.Core.Bool.{Bool, true, false}
 use mathlib.Core.Logic.{⊎_elim}
 use Prim.Native.Nat.{ℕ, zero, suc, ◌+◌, ◌≤◌, ◌<◌}
-use native.Mathlib.Nat.{not-le_of_lt, add_zero}
+use native.Mathlib.Nat.{not-le_of_lt, add-zero}
 use native.Mathlib.Omega.{arith}
 use lib.ListN.{drop_of_length-le, length, take, drop, length-append}
 use lib.Seq.{drop-cons, take-add, drop-drop, drop-append-add}
@@ -65,7 +65,7 @@ numbers_written big (w ∷ ws) (n ∷ ns) p q h =
     let b : List ℕ = bytes_of big w n in
     let r : List ℕ = write_by big ws ns in
     let f : p ++ (b ++ r) ++ q ≡ p ++ (b ++ (r ++ q)) = simp append_assoc in
-    let e : number_at big w (p ++ (b ++ r) ++ q) (length p) ≡ n = rw (f, ← add_zero (length p), number_past big w p (b ++ (r ++ q)) 0)
+    let e : number_at big w (p ++ (b ++ r) ++ q) (length p) ≡ n = rw (f, ← add-zero (length p), number_past big w p (b ++ (r ++ q)) 0)
     (number_written big w n (r ++ q) h.0) in
     let k : length p + w ≡ length (p ++ b) = omega (arith, length-append p b, length_bytes big w n) in
     let a : p ++ (b ++ r) ++ q ≡ (p ++ b) ++ r ++ q = simp append_assoc in

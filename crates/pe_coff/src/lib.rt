@@ -1,4 +1,6 @@
 // The COFF file header of an image, read from lent bytes.
+#![tactic(auto)]
+
 ghost use Rattle.std.specs.Prelude.{◌≡◌};
 ghost use Rattle.pe_coff.specs.Coff.{read_of};
 

@@ -1,4 +1,6 @@
 // The DOS header that an image begins with (`DosHeader`), read from lent bytes and written into them.
+#![tactic(auto)]
+
 ghost use Rattle.std.specs.Prelude.{◌≡◌, false, ◌∷◌, [], ◌+◌, ◌≤◌, length, take};
 ghost use Rattle.fields.specs.Field.{put};
 ghost use Rattle.layout.specs.Layout.{elements, array, write_by};

@@ -1,4 +1,6 @@
 // The headers of an image: every check of the headers and of the section table, in file order, and the numbers that later doors need.
+#![tactic(auto)]
+
 ghost use Rattle.std.specs.Prelude.{◌≡◌};
 ghost use Rattle.pe_header.specs.Header.{pointer_in, coff_in, rows_at, open_of};
 

@@ -1,4 +1,6 @@
 // An address to its offset in the file, by the section table.
+#![tactic(auto)]
+
 ghost use Rattle.std.specs.Prelude.{◌≡◌, ◌+◌, ◌^◌, ◌<◌, min};
 ghost use Rattle.pe_mapping.specs.Mapping.{up, power_of_two, readable_size, holds, first_of, find_offset_of};
 

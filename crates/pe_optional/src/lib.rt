@@ -1,4 +1,6 @@
 // The fields of the optional header that later doors need, read from lent bytes inside its stated size.
+#![tactic(auto)]
+
 ghost use Rattle.std.specs.Prelude.{◌≡◌};
 ghost use Rattle.pe_optional.specs.Optional.{count_at, exception_at, needed, fields_at, read_of};
 

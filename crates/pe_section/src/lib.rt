@@ -1,4 +1,6 @@
 // The section table of an image: a row read from lent bytes, and the row at an index of a table.
+#![tactic(auto)]
+
 ghost use Rattle.std.specs.Prelude.{◌≡◌};
 ghost use Rattle.pe_section.specs.Section.{name_bytes_of, read_of, get_row_of};
 

@@ -1,1 +1,3 @@
 // What a prolog does when it runs: definitions (specs/).
+#![tactic(auto)]
+

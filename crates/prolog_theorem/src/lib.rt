@@ -1,1 +1,3 @@
 // Unwinding undoes the prolog: the theorem (proofs/Theorem.antt).
+#![tactic(auto)]
+

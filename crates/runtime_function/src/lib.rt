@@ -1,4 +1,6 @@
 // A record of the function table (`RuntimeFunction`), read from lent bytes and written into them.
+#![tactic(auto)]
+
 ghost use Rattle.std.specs.Prelude.{◌≡◌};
 ghost use Rattle.fields.specs.Field.{write_of};
 ghost use Rattle.runtime_function.specs.RuntimeFunction.{read_of, write_out};

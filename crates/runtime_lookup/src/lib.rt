@@ -1,4 +1,6 @@
 // The runtime record that holds an address, by halving.
+#![tactic(auto)]
+
 ghost use Rattle.std.specs.Prelude.{◌≡◌, true, false, ◌+◌, ◌*◌, ◌≤◌, length};
 ghost use Rattle.answer.specs.Test.{file_limit};
 ghost use Rattle.fields.specs.Number.{number_at};

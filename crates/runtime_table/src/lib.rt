@@ -1,4 +1,6 @@
 // A table of runtime records in a file: the record at an index, whether the table lies in the file, and whether it is in order.
+#![tactic(auto)]
+
 ghost use Rattle.std.specs.Prelude.{◌≡◌, true, length};
 ghost use Rattle.runtime_table.specs.Table.{table_of, get_entry_of, lies_of, ordered};
 ghost use Rattle.runtime_table.specs.Check.{check_of};

@@ -1,5 +1,7 @@
 // C scope tables: the one in the data of an exception handler, which is lent by itself or found by its unwind info in a file; and its
 // entries, which are written too.
+#![tactic(auto)]
+
 ghost use Rattle.std.specs.Prelude.{◌≡◌};
 ghost use Rattle.fields.specs.Field.{write_of};
 ghost use Rattle.scope_table.specs.Scope.{read_of, write_out, count_from, entry_from, count_in_of, entry_in_of};

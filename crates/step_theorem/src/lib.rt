@@ -1,1 +1,3 @@
 // Unwinding undoes the prolog, with the step as its subject: the theorem (proofs/Theorem.antt).
+#![tactic(auto)]
+

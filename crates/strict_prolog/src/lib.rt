@@ -1,1 +1,3 @@
 // The strict check of a chain of codes: definitions (specs/).
+#![tactic(auto)]
+

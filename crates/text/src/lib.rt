@@ -1,5 +1,7 @@
 // Text for standard output, gathered in an array of the caller's. Each function takes the place where the text ends and answers
 // where it ends then; a full array is written out. No function has a requires.
+#![tactic(auto)]
+
 
 pub fn put_byte(out: &mut [u8; 65536], at: usize, b: u8) -> usize {
     if at < 65536 {

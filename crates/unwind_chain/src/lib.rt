@@ -1,5 +1,7 @@
 // The chain of a runtime record: its unwind info, and each info that the one before is chained to, with all their codes. They are walked
 // in the lent bytes, in constant memory: a cursor goes from code to code and from info to info.
+#![tactic(auto)]
+
 ghost use Rattle.std.specs.Prelude.{◌≡◌, ◌≤◌, length};
 ghost use Rattle.unwind_info.specs.Unwind.{codes_end};
 ghost use Rattle.unwind_codes.specs.Codes.{slots_of};

@@ -1,4 +1,6 @@
 // The codes of an unwind info, decoded in array order: how many there are, and the one at an index. They are walked in the lent bytes.
+#![tactic(auto)]
+
 ghost use Rattle.std.specs.Prelude.{◌≡◌, ◌+◌, ◌*◌, ◌≤◌, length};
 ghost use Rattle.unwind_codes.specs.Codes.{codes_at, nth_of, codes_of, check_info_of, read_code_of};
 ghost use Rattle.unwind_codes.specs.Code.{count_in, nth_in};

@@ -1,4 +1,6 @@
 // Unwind info (`UNWIND_INFO`): its header, and what follows its codes. None of the codes is decoded here.
+#![tactic(auto)]
+
 ghost use Rattle.std.specs.Prelude.{◌≡◌};
 ghost use Rattle.unwind_info.specs.Unwind.{read_header_of, rest_at, handler_at, read_follows_of, read_info_of};
 

@@ -1,5 +1,7 @@
 // From a runtime record to its unwind info, and from an info to the one that it is chained to. Each odd unwind address and each
 // chained info is a link; at most 32 are followed.
+#![tactic(auto)]
+
 ghost use Rattle.std.specs.Prelude.{◌≡◌, ◌≤◌};
 ghost use Rattle.unwind_links.specs.Links.{record_at_of, place_of, locate_from, locate_info_of, info_at, first_info_of, chained_info_of, next_info_of};
 

@@ -1,5 +1,7 @@
 // Unwind operations, decoded from the slots of an unwind info, which are lent as that part of the file by itself; and the x64 registers
 // that they name.
+#![tactic(auto)]
+
 ghost use Rattle.std.specs.Prelude.{◌≡◌, ◌*◌, ◌/◌, ◌%◌, ◌<◌, length};
 ghost use Rattle.unwind_operation.specs.Operation.{known_version_of, form_of, scale_of, operation_of, saved_at, in_two, in_three, next_code_of};
 ghost use Rattle.unwind_operation.specs.Code.{pending_of, form_in};

@@ -1,4 +1,6 @@
 // What an unwinding step changes, the registers of a frame, by value; and the window of stack words that is lent beside them.
+#![tactic(auto)]
+
 ghost use Rattle.std.specs.Prelude.{◌≡◌};
 ghost use Rattle.unwind_state.specs.State.{gpr, with_gpr, with_rip, with_xmm_low, with_xmm};
 ghost use Rattle.unwind_state.specs.Code.{word_at_of};

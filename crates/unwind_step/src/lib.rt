@@ -1,4 +1,6 @@
 // One unwinding step: from the registers at a stop to those of the caller, by the exception data of an image.
+#![tactic(auto)]
+
 ghost use Rattle.std.specs.Prelude.{◌≡◌, true};
 ghost use Rattle.answer.specs.Test.{pick};
 ghost use Rattle.unwind_undo.specs.Distance.{distance_of, has_run};

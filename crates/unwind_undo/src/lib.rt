@@ -1,4 +1,6 @@
 // What undoing one operation does to the registers of a frame, and the last step of an unwinding step, by value.
+#![tactic(auto)]
+
 ghost use Rattle.std.specs.Prelude.{◌≡◌, ◌+◌};
 ghost use Rattle.unwind_undo.specs.Undo.{place_of, xmm_number};
 ghost use Rattle.unwind_undo.specs.Code.{sum_of, less_of, word_of, base_of, saved_of, push_of, alloc_of, set_frame_of, save_of, save_low_of, save_xmm_of, machine_frame_of, frame_above, undo_operation_of, last_step_of};

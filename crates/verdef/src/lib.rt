@@ -1,4 +1,6 @@
 // The version definitions of a file (SHT_GNU_verdef): the list of them, and the list of one's auxiliaries, which are names.
+#![tactic(auto)]
+
 ghost use Rattle.std.specs.Prelude.{◌≡◌};
 ghost use Rattle.verdef.specs.Verdef.{definitions_of, definitions_out, auxiliaries_of, auxiliaries_out};
 

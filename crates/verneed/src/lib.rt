@@ -1,5 +1,7 @@
 // The versions that a file needs (SHT_GNU_verneed): the list of the files that it needs them of, and the list of one's auxiliaries,
 // which are the versions.
+#![tactic(auto)]
+
 ghost use Rattle.std.specs.Prelude.{◌≡◌};
 ghost use Rattle.verneed.specs.Verneed.{needs_of, needs_out, auxiliaries_of, auxiliaries_out};
 

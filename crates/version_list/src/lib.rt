@@ -1,5 +1,7 @@
 // A list of version records, each a row of numbers in a list that the caller lends: first the record's place in the section, then
 // its fields in the document's order. A list is followed twice: once to see how many records it has, and once to write them.
+#![tactic(auto)]
+
 ghost use Rattle.std.specs.Prelude.{◌≡◌, ◌+◌, ◌*◌, ◌≤◌, suc, length};
 ghost use Rattle.answer.specs.Test.{file_limit};
 ghost use Rattle.fields.specs.Field.{put};

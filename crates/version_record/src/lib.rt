@@ -1,4 +1,6 @@
 // The four records of the version sections: their numbers, and what is at a place of a list of them.
+#![tactic(auto)]
+
 ghost use Rattle.std.specs.Prelude.{◌≡◌, ◌⊎◌, ◌+◌, ◌≤◌, ◌<◌, length, get_or, ltb};
 ghost use Rattle.fields.specs.Number.{number_at};
 ghost use Rattle.layout.specs.Layout.{size, numbers_at};

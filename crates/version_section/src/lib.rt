@@ -1,4 +1,6 @@
 // What the three version sections share: the answer that carries how many entries there are.
+#![tactic(auto)]
+
 use answer::Refusal;
 
 // How many entries a section or a list has.

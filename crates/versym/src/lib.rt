@@ -1,4 +1,6 @@
 // The symbol version table (SHT_GNU_versym): for each symbol a number of 16 bits, with the version and whether it is hidden.
+#![tactic(auto)]
+
 ghost use Rattle.std.specs.Prelude.{◌≡◌};
 ghost use Rattle.versym.specs.Versym.{versym_of, count_in_of, count_of, get_at_in_of, get_at_of};
 

@@ -1,5 +1,7 @@
 // The symbol version table as a struct that holds its part of the file, as goblin's does. Each function over it takes it apart and
 // calls the function of `versym` on the bytes; `get_at_of` has plain parameters, so that a caller of it needs no proof by hand.
+#![tactic(auto)]
+
 ghost use Rattle.std.specs.Prelude.{◌≡◌};
 ghost use Rattle.versym.specs.Versym.{count_in_of, get_at_in_of};
 

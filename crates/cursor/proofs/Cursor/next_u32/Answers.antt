@@ -1,0 +1,21 @@
+-- `cursor::Cursor::next_u32` meets its contract: the read of the field tells which case it is, and that the place past it fits.
+-- Assumes nothing.
+use native.Mathlib.Omega.{arith}
+use Rattle.fields.proofs.Laws.{u32_found, u32_missed}
+use Rattle.cursor.proofs.Laws.{next_value, next_missed}
+use Rattle.cursor.specs.Next.{taken_u32}
+use borrow.Author.Rules.{rules}
+use Rattle.cursor.proofs.Cursor.next_u32.Goals as goal
+
+pub overflow_add-result : goal.overflow_add-result
+overflow_add-result c =
+    let f = u32_found _ _ _ c.read_u32.ensures c.in-Value.is in
+    omega arith
+
+pub returns-in-Value : goal.returns-in-Value
+returns-in-Value c =
+    let f = u32_found _ _ _ c.read_u32.ensures c.in-Value.is in
+    next_value taken_u32 _ _ 4 _ _ f.inside f.value
+
+pub returns-in-Refused : goal.returns-in-Refused
+returns-in-Refused c = next_missed taken_u32 _ _ 4 _ _ (u32_missed _ _ _ c.read_u32.ensures c.in-Refused.is)

@@ -1,0 +1,19 @@
+-- `fields::put_u32` meets its contract: the two halves, put one behind the other, are the number.
+-- Assumes nothing.
+use borrow.Author.Rules.{rules}
+use native.Mathlib.Omega.{arith}
+use mathlib.Core.Bool.{true, false}
+use Rattle.fields.proofs.Laws.{put_joined}
+use Rattle.fields.proofs.put_u32.Goals as goal
+
+pub returns-then-big : goal.returns-then-big
+returns-then-big c =
+    let big = c.args.big in
+    put_joined big true c.if-big.true 2 _ _ _ _ _ _ _ _ (omega arith) (omega arith) (omega arith) (omega arith) c.put_u16.ensures
+    (omega arith) c.put_u16-then-big.ensures
+
+pub returns : goal.returns
+returns c =
+    let big = c.args.big in
+    put_joined big false c.if-big.false 2 _ _ _ _ _ _ _ _ (omega arith) (omega arith) (omega arith) (omega arith) c.put_u16-2.ensures
+    (omega arith) c.put_u16-3.ensures
