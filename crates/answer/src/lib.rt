@@ -6,7 +6,7 @@ ghost use Rattle.answer.specs.Answer.{refuse_of, cut_of, beyond_of, number_of};
 ghost use Rattle.answer.specs.Words.{words_of};
 
 // Why a door refuses. The number of each is its place in this list, from 1 on.
-#[derive(Drop)]
+#[derive(Clone, Copy)]
 pub enum Reason {
     Short,
     Magic,
@@ -26,7 +26,7 @@ pub enum Reason {
 }
 
 // What a door that refuses hands back. It has no number 0: that is the number of what is accepted.
-#[derive(Drop)]
+#[derive(Clone, Copy)]
 pub struct Refusal {
     pub reason: Reason,
 }

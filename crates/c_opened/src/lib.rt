@@ -10,7 +10,7 @@ use pe_mapping::Sections;
 
 const X64: u64 = 0x8664;
 
-#[derive(Drop)]
+#[derive(Clone, Copy)]
 pub enum ReadOpened {
     Value(ExceptionData),
     Refused(Refusal),

@@ -7,54 +7,54 @@ ghost use Rattle.cursor.specs.Next.{new_of, next_of, taken_u8, taken_u16, taken_
 use answer::Refusal;
 use fields::{ReadU8, ReadU16, ReadU32, ReadU64};
 
-#[derive(Drop)]
+#[derive(Clone, Copy)]
 pub struct Cursor {
     pub at: usize,
 }
 
-#[derive(Drop)]
+#[derive(Clone, Copy)]
 pub struct TakenU8 {
     pub value: u8,
     pub next: Cursor,
 }
 
-#[derive(Drop)]
+#[derive(Clone, Copy)]
 pub enum NextU8 {
     Value(TakenU8),
     Refused(Refusal),
 }
 
-#[derive(Drop)]
+#[derive(Clone, Copy)]
 pub struct TakenU16 {
     pub value: u16,
     pub next: Cursor,
 }
 
-#[derive(Drop)]
+#[derive(Clone, Copy)]
 pub enum NextU16 {
     Value(TakenU16),
     Refused(Refusal),
 }
 
-#[derive(Drop)]
+#[derive(Clone, Copy)]
 pub struct TakenU32 {
     pub value: u32,
     pub next: Cursor,
 }
 
-#[derive(Drop)]
+#[derive(Clone, Copy)]
 pub enum NextU32 {
     Value(TakenU32),
     Refused(Refusal),
 }
 
-#[derive(Drop)]
+#[derive(Clone, Copy)]
 pub struct TakenU64 {
     pub value: u64,
     pub next: Cursor,
 }
 
-#[derive(Drop)]
+#[derive(Clone, Copy)]
 pub enum NextU64 {
     Value(TakenU64),
     Refused(Refusal),

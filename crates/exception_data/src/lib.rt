@@ -14,13 +14,13 @@ use runtime_table::CheckTable;
 const X64: u16 = 0x8664;
 
 // The form of a table's records.
-#[derive(Drop)]
+#[derive(Clone, Copy)]
 pub enum RecordForm {
     X64,
 }
 
 // An opened table: where it is, how many records it has, and what mapping needs.
-#[derive(Drop)]
+#[derive(Clone, Copy)]
 pub struct ExceptionData {
     pub form: RecordForm,
     pub table: usize,
@@ -28,7 +28,7 @@ pub struct ExceptionData {
     pub sections: Sections,
 }
 
-#[derive(Drop)]
+#[derive(Clone, Copy)]
 pub enum OpenExceptionData {
     Value(ExceptionData),
     Refused(Refusal),

@@ -9,7 +9,7 @@ use answer::{Reason, Refusal};
 use cursor::{Cursor, NextU32};
 use fat_member::ReadFatArch;
 
-#[derive(Drop)]
+#[derive(Clone, Copy)]
 pub enum OpenFat {
     Value(u32),
     Refused(Refusal),
@@ -17,7 +17,7 @@ pub enum OpenFat {
 
 // A member and the part of the file that it occupies. `arch` tells whether there is one: a refusal has no bytes, and a member may
 // have none.
-#[derive(Drop)]
+#[derive(Clone, Copy)]
 pub struct FatArchBytes<'a> {
     pub arch: ReadFatArch,
     pub bytes: &'a [u8],

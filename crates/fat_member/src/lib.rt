@@ -11,7 +11,7 @@ use cursor::{Cursor, NextU32};
 pub const SIZE: usize = 20;
 
 // The offset and the size have 64 bits, though the fields have 32.
-#[derive(Drop)]
+#[derive(Clone, Copy)]
 pub struct FatArch {
     pub cputype: u32,
     // Without its top 8 bits, which are `caps`.
@@ -23,7 +23,7 @@ pub struct FatArch {
     pub is_64: bool,
 }
 
-#[derive(Drop)]
+#[derive(Clone, Copy)]
 pub enum ReadFatArch {
     Value(FatArch),
     Refused(Refusal),

@@ -10,7 +10,7 @@ use cursor::{Cursor, NextU16, NextU32};
 // The bytes of the header.
 pub const SIZE: usize = 20;
 
-#[derive(Drop)]
+#[derive(Clone, Copy)]
 pub struct CoffHeader {
     pub machine: u16,
     pub number_of_sections: u16,
@@ -21,7 +21,7 @@ pub struct CoffHeader {
     pub characteristics: u16,
 }
 
-#[derive(Drop)]
+#[derive(Clone, Copy)]
 pub enum ReadCoffHeader {
     Value(CoffHeader),
     Refused(Refusal),

@@ -16,7 +16,7 @@ pub const SIZE: usize = 64;
 
 pub const SIGNATURE: u16 = 0x5A4D;
 
-#[derive(Drop)]
+#[derive(Clone, Copy)]
 pub struct DosHeader {
     pub signature: u16,
     pub bytes_on_last_page: u16,
@@ -40,13 +40,13 @@ pub struct DosHeader {
 }
 
 // The header holds arrays, which a case of an enum cannot, so it is beside the outcome.
-#[derive(Drop)]
+#[derive(Clone, Copy)]
 pub enum Outcome {
     Whole,
     Refused(Refusal),
 }
 
-#[derive(Drop)]
+#[derive(Clone, Copy)]
 pub struct ReadDosHeader {
     pub outcome: Outcome,
     // Zeros where it is refused.
@@ -54,7 +54,7 @@ pub struct ReadDosHeader {
 }
 
 // The numbers of two bytes after the signature, and the place past them.
-#[derive(Drop)]
+#[derive(Clone, Copy)]
 struct Halves {
     outcome: Outcome,
     numbers: [u16; 29],

@@ -13,7 +13,7 @@ use pe_optional::{ExceptionDirectory, OptionalMagic};
 const SIGNATURE: u32 = 0x00004550;
 
 // What the headers of an accepted file say; the offsets count from its front.
-#[derive(Drop)]
+#[derive(Clone, Copy)]
 pub struct Header {
     pub pe_pointer: usize,
     pub machine: u16,
@@ -27,13 +27,13 @@ pub struct Header {
     pub section_table: usize,
 }
 
-#[derive(Drop)]
+#[derive(Clone, Copy)]
 pub enum OpenHeader {
     Value(Header),
     Refused(Refusal),
 }
 
-#[derive(Drop)]
+#[derive(Clone, Copy)]
 enum CheckRows {
     Whole,
     Refused(Refusal),

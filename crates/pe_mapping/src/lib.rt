@@ -8,14 +8,14 @@ use answer::{Reason, Refusal};
 use pe_section::{ReadSectionTable, SectionTable};
 
 // Where the section table is, how many rows it has, and the file alignment.
-#[derive(Drop)]
+#[derive(Clone, Copy)]
 pub struct Sections {
     pub table: usize,
     pub count: usize,
     pub alignment: u32,
 }
 
-#[derive(Drop)]
+#[derive(Clone, Copy)]
 pub enum FindOffset {
     // The offset, which may lie past the file.
     Value(u64),

@@ -20,27 +20,27 @@ const EXCEPTION_INDEX: u32 = 3;
 const LAST: usize = 0xFFFF_FFFF_FFFF_FFFF;
 
 // Which form of the header the magic number names.
-#[derive(Drop)]
+#[derive(Clone, Copy)]
 pub enum OptionalMagic {
     Pe32,
     Pe32Plus,
 }
 
-#[derive(Drop)]
+#[derive(Clone, Copy)]
 pub struct DataDirectory {
     pub virtual_address: u32,
     pub size: u32,
 }
 
 // The exception directory.
-#[derive(Drop)]
+#[derive(Clone, Copy)]
 pub enum ExceptionDirectory {
     // The header has too few directories.
     Missing,
     Given(DataDirectory),
 }
 
-#[derive(Drop)]
+#[derive(Clone, Copy)]
 pub struct OptionalHeader {
     pub magic: OptionalMagic,
     pub file_alignment: u32,
@@ -48,7 +48,7 @@ pub struct OptionalHeader {
     pub exceptions: ExceptionDirectory,
 }
 
-#[derive(Drop)]
+#[derive(Clone, Copy)]
 pub enum ReadOptionalHeader {
     Value(OptionalHeader),
     Refused(Refusal),

@@ -15,7 +15,7 @@ pub const LIMIT: usize = 96;
 
 const LAST: usize = 0xFFFF_FFFF_FFFF_FFFF;
 
-#[derive(Drop)]
+#[derive(Clone, Copy)]
 pub struct SectionTable {
     // The eight bytes of the name as one number, the first the least significant: `name_bytes` hands them out.
     pub name: u64,
@@ -30,7 +30,7 @@ pub struct SectionTable {
     pub characteristics: u32,
 }
 
-#[derive(Drop)]
+#[derive(Clone, Copy)]
 pub enum ReadSectionTable {
     Value(SectionTable),
     Refused(Refusal),

@@ -11,14 +11,14 @@ use fields::WriteBytes;
 
 pub const SIZE: usize = 12;
 
-#[derive(Drop)]
+#[derive(Clone, Copy)]
 pub struct RuntimeFunction {
     pub begin: u32,
     pub end: u32,
     pub unwind: u32,
 }
 
-#[derive(Drop)]
+#[derive(Clone, Copy)]
 pub enum ReadRuntimeFunction {
     Value(RuntimeFunction),
     Refused(Refusal),

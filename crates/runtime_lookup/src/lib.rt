@@ -15,27 +15,27 @@ use runtime_function::{ReadRuntimeFunction, RuntimeFunction};
 use runtime_table::CheckTable;
 
 // The record that holds an address, and its index.
-#[derive(Drop)]
+#[derive(Clone, Copy)]
 pub struct Holder {
     pub function: RuntimeFunction,
     pub index: usize,
 }
 
-#[derive(Drop)]
+#[derive(Clone, Copy)]
 pub enum CheckAndFind {
     Value(Holder),
     Refused(Refusal),
 }
 
 // With the number of records that were read.
-#[derive(Drop)]
+#[derive(Clone, Copy)]
 pub enum FindFunction {
     Value(Holder, u8),
     Refused(Refusal),
 }
 
 // How a search ends.
-#[derive(Drop)]
+#[derive(Clone, Copy)]
 enum SearchEnd {
     // At the record of this index, which holds the address or is not wholly in the file.
     Stopped(usize),
@@ -44,7 +44,7 @@ enum SearchEnd {
 }
 
 // A search: how it ended, and how many records it read.
-#[derive(Drop)]
+#[derive(Clone, Copy)]
 struct Search {
     end: SearchEnd,
     reads: u8,

@@ -10,7 +10,7 @@ use runtime_function::ReadRuntimeFunction;
 
 const LAST: usize = 18446744073709551615;
 
-#[derive(Drop)]
+#[derive(Clone, Copy)]
 pub enum CheckTable {
     Ordered,
     Refused(Refusal),

@@ -19,7 +19,7 @@ pub const SIZE: usize = 16;
 // The bytes of the count before them.
 pub const HEAD: usize = 4;
 
-#[derive(Drop)]
+#[derive(Clone, Copy)]
 pub struct ScopeTableEntry {
     pub begin: u32,
     pub end: u32,
@@ -27,20 +27,20 @@ pub struct ScopeTableEntry {
     pub target: u32,
 }
 
-#[derive(Drop)]
+#[derive(Clone, Copy)]
 pub enum ReadScopeTableEntry {
     Value(ScopeTableEntry),
     Refused(Refusal),
 }
 
-#[derive(Drop)]
+#[derive(Clone, Copy)]
 pub enum CountScopes {
     Value(u32),
     Refused(Refusal),
 }
 
 // Where the data of an exception handler starts in the file: it runs to the end of the file.
-#[derive(Drop)]
+#[derive(Clone, Copy)]
 enum HandlerData {
     Start(usize),
     Refused(Refusal),

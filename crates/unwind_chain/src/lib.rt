@@ -17,7 +17,7 @@ use unwind_info::{Follows, UnwindHeader, UnwindInfo};
 use unwind_links::{LocateInfo, ReachInfo};
 use unwind_operation::{NextCode, UnwindCode};
 
-#[derive(Drop)]
+#[derive(Clone, Copy)]
 pub struct Totals {
     // How many links were followed.
     pub links: usize,
@@ -25,14 +25,14 @@ pub struct Totals {
     pub codes: usize,
 }
 
-#[derive(Drop)]
+#[derive(Clone, Copy)]
 pub enum CountAllCodes {
     Value(Totals),
     Refused(Refusal),
 }
 
 // A place among the codes of a chain: an info, and a slot of it.
-#[derive(Drop)]
+#[derive(Clone, Copy)]
 pub struct ChainCursor {
     pub header: UnwindHeader,
     pub follows: Follows,
@@ -44,26 +44,26 @@ pub struct ChainCursor {
     pub slot: usize,
 }
 
-#[derive(Drop)]
+#[derive(Clone, Copy)]
 pub struct ChainStart {
     // Where the function of the record that names the found info begins.
     pub begin: u32,
     pub cursor: ChainCursor,
 }
 
-#[derive(Drop)]
+#[derive(Clone, Copy)]
 pub enum StartChain {
     Value(ChainStart),
     Refused(Refusal),
 }
 
-#[derive(Drop)]
+#[derive(Clone, Copy)]
 pub struct TakenChainCode {
     pub code: UnwindCode,
     pub next: ChainCursor,
 }
 
-#[derive(Drop)]
+#[derive(Clone, Copy)]
 pub enum NextChainCode {
     // A code of the cursor's info, and the cursor after it.
     Code(TakenChainCode),
@@ -75,7 +75,7 @@ pub enum NextChainCode {
 }
 
 // An info with all its codes decoded: how many links led to it, and how many codes it has.
-#[derive(Drop)]
+#[derive(Clone, Copy)]
 enum Linked {
     // And the record that it is chained to.
     Chained(RuntimeFunction, usize, usize),

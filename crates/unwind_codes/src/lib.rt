@@ -9,32 +9,32 @@ use answer::{Reason, Refusal};
 use unwind_info::{ReadFollows, ReadHeader, UnwindHeader, UnwindInfo};
 use unwind_operation::{NextCode, Register, UnwindCode};
 
-#[derive(Drop)]
+#[derive(Clone, Copy)]
 pub struct CheckedInfo {
     pub info: UnwindInfo,
     // How many operations its slots hold.
     pub codes: usize,
 }
 
-#[derive(Drop)]
+#[derive(Clone, Copy)]
 pub enum CheckInfo {
     Value(CheckedInfo),
     Refused(Refusal),
 }
 
-#[derive(Drop)]
+#[derive(Clone, Copy)]
 pub enum ReadCode {
     Value(UnwindCode),
     Refused(Refusal),
 }
 
-#[derive(Drop)]
+#[derive(Clone, Copy)]
 enum CountCodes {
     Value(usize),
     Refused(Refusal),
 }
 
-#[derive(Drop)]
+#[derive(Clone, Copy)]
 enum NthCode {
     Value(UnwindCode),
     // There are fewer.

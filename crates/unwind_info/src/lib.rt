@@ -9,7 +9,7 @@ use cursor::{Cursor, NextU8, NextU32};
 use runtime_function::{ReadRuntimeFunction, RuntimeFunction};
 use unwind_operation::Register;
 
-#[derive(Drop)]
+#[derive(Clone, Copy)]
 pub struct UnwindHeader {
     pub version: u8,
     // As they are: bits without meaning are kept.
@@ -26,13 +26,13 @@ pub struct UnwindHeader {
     pub follows_at: usize,
 }
 
-#[derive(Drop)]
+#[derive(Clone, Copy)]
 pub enum HandlerKind {
     Exception,
     Termination,
 }
 
-#[derive(Drop)]
+#[derive(Clone, Copy)]
 pub struct UnwindHandler {
     pub kind: HandlerKind,
     pub address: u32,
@@ -42,32 +42,32 @@ pub struct UnwindHandler {
 }
 
 // What follows the codes.
-#[derive(Drop)]
+#[derive(Clone, Copy)]
 pub enum Follows {
     Nothing,
     Chained(RuntimeFunction),
     Handler(UnwindHandler),
 }
 
-#[derive(Drop)]
+#[derive(Clone, Copy)]
 pub struct UnwindInfo {
     pub header: UnwindHeader,
     pub follows: Follows,
 }
 
-#[derive(Drop)]
+#[derive(Clone, Copy)]
 pub enum ReadHeader {
     Value(UnwindHeader),
     Refused(Refusal),
 }
 
-#[derive(Drop)]
+#[derive(Clone, Copy)]
 pub enum ReadFollows {
     Value(Follows),
     Refused(Refusal),
 }
 
-#[derive(Drop)]
+#[derive(Clone, Copy)]
 pub enum ReadInfo {
     Value(UnwindInfo),
     Refused(Refusal),

@@ -14,7 +14,7 @@ use unwind_info::{Follows, ReadInfo, UnwindInfo};
 pub const LIMIT: usize = 32;
 
 // Where an info is.
-#[derive(Drop)]
+#[derive(Clone, Copy)]
 pub struct InfoPlace {
     // Where the function of the record that names the info begins.
     pub begin: u32,
@@ -24,25 +24,25 @@ pub struct InfoPlace {
     pub links: usize,
 }
 
-#[derive(Drop)]
+#[derive(Clone, Copy)]
 pub struct ReachedInfo {
     pub place: InfoPlace,
     pub info: UnwindInfo,
 }
 
-#[derive(Drop)]
+#[derive(Clone, Copy)]
 pub enum LocateInfo {
     Value(InfoPlace),
     Refused(Refusal),
 }
 
-#[derive(Drop)]
+#[derive(Clone, Copy)]
 pub enum ReachInfo {
     Value(ReachedInfo),
     Refused(Refusal),
 }
 
-#[derive(Drop)]
+#[derive(Clone, Copy)]
 pub enum NextInfo {
     Value(ReachedInfo),
     // The info is not chained.

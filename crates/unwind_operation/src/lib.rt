@@ -11,14 +11,14 @@ use answer::{Reason, Refusal};
 use fields::{ReadU16, ReadU32};
 
 // Where a register is saved, and what its offset counts from.
-#[derive(Drop)]
+#[derive(Clone, Copy)]
 pub enum StackFrameOffset {
     RSP(u32),
     // The frame register.
     FP(u32),
 }
 
-#[derive(Drop)]
+#[derive(Clone, Copy)]
 pub enum UnwindOperation {
     PushNonVolatile(Register),
     Alloc(u32),
@@ -37,20 +37,20 @@ pub enum UnwindOperation {
     Noop,
 }
 
-#[derive(Drop)]
+#[derive(Clone, Copy)]
 pub struct UnwindCode {
     pub code_offset: u8,
     pub operation: UnwindOperation,
 }
 
-#[derive(Drop)]
+#[derive(Clone, Copy)]
 pub struct TakenCode {
     pub code: UnwindCode,
     // The slot after it.
     pub next: usize,
 }
 
-#[derive(Drop)]
+#[derive(Clone, Copy)]
 pub enum NextCode {
     Value(TakenCode),
     Refused(Refusal),
@@ -60,7 +60,7 @@ pub enum NextCode {
 pub const SLOT: usize = 2;
 
 // An operation that takes a number from the slots after its first.
-#[derive(Drop)]
+#[derive(Clone, Copy)]
 enum Numbered {
     Alloc,
     SaveNonVolatile(Register),
@@ -70,7 +70,7 @@ enum Numbered {
 }
 
 // The slots that an operation takes.
-#[derive(Drop)]
+#[derive(Clone, Copy)]
 enum Slots {
     One(UnwindOperation),
     // The second has a number of 16 bits, scaled.
@@ -222,7 +222,7 @@ fn from_base(frame: Register, n: u32) -> StackFrameOffset
 }
 
 // 0 to 15 are the general registers, 16 is the instruction pointer, 17 to 32 are XMM 0 to 15.
-#[derive(Drop)]
+#[derive(Clone, Copy)]
 pub struct Register(pub u8);
 
 const REGISTERS: usize = 33;

@@ -7,7 +7,7 @@ ghost use Rattle.unwind_state.specs.Code.{word_at_of};
 
 // The registers as they are at a stop. General register 4 is RSP. XMM register `n` is the words `2 * n`, the low one, and `2 * n + 1`.
 #[repr(C)]
-#[derive(Drop)]
+#[derive(Clone, Copy)]
 pub struct State {
     pub gpr: [u64; 16],
     pub rip: u64,
@@ -15,7 +15,7 @@ pub struct State {
 }
 
 // What a window has at an address.
-#[derive(Drop)]
+#[derive(Clone, Copy)]
 pub enum StackWord {
     Held(u64),
     Outside,

@@ -17,21 +17,21 @@ use unwind_operation::UnwindCode;
 use unwind_state::State;
 use unwind_undo::{Undo, UndoOutcome};
 
-#[derive(Drop)]
+#[derive(Clone, Copy)]
 pub enum StepAnswer {
     Done,
     Refused(Refusal),
 }
 
 // The registers beside the answer: those of the caller or, where it is refused, those that were given.
-#[derive(Drop)]
+#[derive(Clone, Copy)]
 pub struct Stepped {
     pub answer: StepAnswer,
     pub state: State,
 }
 
 // Where RIP is in an image, as an address that counts from its base.
-#[derive(Drop)]
+#[derive(Clone, Copy)]
 pub enum RelativeAddress {
     Inside(u32),
     Outside,

@@ -9,7 +9,7 @@ use unwind_operation::{Register, StackFrameOffset, UnwindOperation};
 use unwind_state::{StackWord, State};
 
 // What undoing comes to.
-#[derive(Drop)]
+#[derive(Clone, Copy)]
 pub enum UndoOutcome {
     // Registers to go on with.
     On,
@@ -20,14 +20,14 @@ pub enum UndoOutcome {
 }
 
 // The registers beside it; where it is lost, those that were given.
-#[derive(Drop)]
+#[derive(Clone, Copy)]
 pub struct Undo {
     pub outcome: UndoOutcome,
     pub state: State,
 }
 
 // An address, or one that leaves 64 bits.
-#[derive(Drop)]
+#[derive(Clone, Copy)]
 enum Place {
     There(u64),
     Beyond,

@@ -17,7 +17,7 @@ use version_section::CountEntries;
 // How many records a list may state.
 pub const RECORD_LIMIT: usize = 65535;
 
-#[derive(Drop)]
+#[derive(Clone, Copy)]
 struct Extent {
     entries: usize,
     whole: bool,

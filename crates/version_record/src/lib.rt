@@ -10,7 +10,7 @@ use answer::Reason;
 use cursor::{Cursor, NextU16, NextU32};
 use fields::WriteBytes;
 
-#[derive(Drop)]
+#[derive(Clone, Copy)]
 pub enum VersionRecord {
     Verdef,
     Verdaux,
@@ -19,7 +19,7 @@ pub enum VersionRecord {
 }
 
 // What is at a place of a list.
-#[derive(Drop)]
+#[derive(Clone, Copy)]
 pub enum Onward {
     // A record, and how far from its start the next one is.
     Next(u32),

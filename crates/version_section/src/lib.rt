@@ -4,7 +4,7 @@
 use answer::Refusal;
 
 // How many entries a section or a list has.
-#[derive(Drop)]
+#[derive(Clone, Copy)]
 pub enum CountEntries {
     // All of it is entries.
     Whole(usize),

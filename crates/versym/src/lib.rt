@@ -12,13 +12,13 @@ const SIZE: usize = 2;
 
 const HIDDEN: u16 = 0x8000;
 
-#[derive(Drop)]
+#[derive(Clone, Copy)]
 pub struct Versym {
     pub hidden: bool,
     pub version: u16,
 }
 
-#[derive(Drop)]
+#[derive(Clone, Copy)]
 pub enum ReadVersym {
     Value(Versym),
     Refused(Refusal),

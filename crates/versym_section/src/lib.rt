@@ -8,7 +8,7 @@ ghost use Rattle.versym.specs.Versym.{count_in_of, get_at_in_of};
 use version_section::CountEntries;
 use versym::ReadVersym;
 
-#[derive(Drop)]
+#[derive(Clone, Copy)]
 pub struct VersymSection<'a> {
     pub bytes: &'a [u8],
     pub big: bool,
