@@ -65,10 +65,11 @@ pub fn member_at(file: &[u8], index: usize) -> ReadFatArch
 }
 
 // The member with that index, and its bytes where they are in the file.
+#[tactic(auto, using(crate::proofs::Laws::found_inside))]
 pub fn bytes_at<'a>(file: &'a [u8], index: usize) -> FatArchBytes<'a>
     ensures { (result.arch ≡ member_at_of file.now index)
         × (result.bytes.now ≡ bytes_at_of file.now (member_at_of file.now index))
-        × (result.bytes.ptr ≡ start_of file.entry.ref_ptr (member_at_of file.now index)) }
+        × (result.bytes.ref_ptr ≡ start_of file.entry.ref_ptr (member_at_of file.now index)) }
 {
     let found = member_at(file, index);
     let bytes = slice(file, found);

@@ -1,0 +1,25 @@
+-- `unwind_info::read_follows` meets its contract: the flags tell what is read.
+-- Assumes nothing.
+use borrow.Author.Tests.{eq-eqb, ne_eqb}
+use Rattle.unwind_info.proofs.Laws.{chained_there, chained_cut, follows_chained, follows_exception, follows_termination, follows_nothing}
+use borrow.Author.Rules.{rules}
+use Rattle.unwind_info.proofs.read_follows.Goals as goal
+
+pub returns-in-Value : goal.returns-in-Value
+returns-in-Value c = follows_chained _ _ _ (eq-eqb _ _ c.if-flags-eq1.true) (chained_there _ _ c.read.ensures c.in-Value.is)
+
+pub returns-in-Refused : goal.returns-in-Refused
+returns-in-Refused c = follows_chained _ _ _ (eq-eqb _ _ c.if-flags-eq1.true) (chained_cut _ _ c.read.ensures c.in-Refused.is)
+
+pub returns-then-flags-eq1-2 : goal.returns-then-flags-eq1-2
+returns-then-flags-eq1-2 c = follows_exception _ _ _ (ne_eqb _ _ c.if-flags-eq1.false) (eq-eqb _ _ c.if-flags-eq1-2.true) c.handler.ensures
+
+pub returns-then-flags-eq1-3 : goal.returns-then-flags-eq1-3
+returns-then-flags-eq1-3 c =
+    follows_termination _ _ _ (ne_eqb _ _ c.if-flags-eq1.false) (ne_eqb _ _ c.if-flags-eq1-2.false) (eq-eqb _ _ c.if-flags-eq1-3.true)
+    c.handler-then-flags-eq1-3.ensures
+
+pub returns : goal.returns
+returns c =
+    follows_nothing _ _ _ (ne_eqb _ _ c.if-flags-eq1.false) (ne_eqb _ _ c.if-flags-eq1-2.false)
+    (ne_eqb _ _ c.if-flags-eq1-3.false)
