@@ -105,8 +105,8 @@ fn search_table(file: &[u8], table: usize, count: usize, address: u32) -> Search
 
 // Halving on a table that lies in the file: no read is tested.
 fn inside(file: &[u8], table: usize, count: usize, address: u32) -> Search
-    requires file_len_bound { length file.now ≤ file_limit }
-    requires count_value { lies_of (length file.now) table count ≡ true }
+    requires file_within { length file.now ≤ file_limit }
+    requires table_within { lies_of (length file.now) table count ≡ true }
     ensures { result ≡ search_of (halving (table_of file.now table) address count) }
 {
     let mut low: usize = 0;

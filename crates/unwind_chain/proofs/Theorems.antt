@@ -51,9 +51,9 @@ few : {s : List ℕ} {sections : Sections} {r : RuntimeFunction} {n : ℕ} (l : 
 few {s} {sections} {r} {n} l [] (last_info p h) =
     let w = (located_told s sections r n p.place).1 in
     (omega (arith, w.most), w.most)
-few {s} {sections} l (m ∷ ms) (more_infos {e = e} p f h) =
+few {s} {sections} {r} {n} l (m ∷ ms) (more_infos {e = e} p f h) =
     let w = (located_told s sections e (l.place.links + 1) (head_of h).place).1 in
-    let b = few m ms h in
+    let b = few {r = e} {n = l.place.links + 1} m ms h in
     (omega (arith, w.least, b.0), b.1)
 
 -- 12.6: A chain has at most 33 infos, and at most 32 links lead to its last.
@@ -83,7 +83,7 @@ visits {s} {sections} {r} {n} l (m ∷ ms) (more_infos {e = e} p f h) =
     visits_on
     (next_info s sections (reached_of l) (located_told s sections r n p.place).0 f
     (reached_link s sections e (l.place.links + 1) m (head_of h)) refl)
-    (visits m ms h)
+    (visits {r = e} {n = l.place.links + 1} m ms h)
 
 -- 12.6: The first info of a chain is the one that `first_info` reaches, and each other the one that `next_info` reaches from the one before
 -- it.

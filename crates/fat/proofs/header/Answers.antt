@@ -6,7 +6,6 @@ use mathlib.Core.Path.{sym, ◌∙◌}
 use Rattle.cursor.proofs.Laws.{new_at, u32_took, u32_cut}
 use Rattle.fat_member.proofs.Laws.{number_there}
 use Rattle.fat.proofs.Laws.{header_long, header_no_magic, header_other, header_no_count, header_many, header_count}
-use borrow.Author.Rules.{rules}
 use Rattle.fat.proofs.header.Goals as goal
 
 pub returns-then-file-gt-FILE_LIMIT : goal.returns-then-file-gt-FILE_LIMIT

@@ -3,7 +3,6 @@
 use native.Mathlib.Omega.{arith}
 use mathlib.Core.Path.{refl, sym, ◌∙◌}
 use Rattle.fat.proofs.Laws.{found_refused, found_at_lem, found_past}
-use borrow.Author.Rules.{rules}
 use Rattle.fat.proofs.member_at.Goals as goal
 
 pub returns-in-Refused : goal.returns-in-Refused

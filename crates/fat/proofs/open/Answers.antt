@@ -3,12 +3,9 @@
 -- The measure is what is left.
 -- Assumes nothing.
 use native.Mathlib.Omega.{arith}
-use mathlib.Core.Path.{◌≡◌, refl, sym, ◌∙◌}
-use Prim.Native.Nat.{◌+◌, ◌*◌}
+use mathlib.Core.Path.{sym, ◌∙◌}
 use Rattle.fat_member.specs.FatArch.{fat_arch}
-use Rattle.fat.specs.Fat.{members_at}
-use Rattle.fat.proofs.Laws.{counted, members_on, members_stop, members_none, opened_refused, opened_members}
-use borrow.Author.Rules.{rules}
+use Rattle.fat.proofs.Laws.{members_on, members_stop, members_none, opened_refused, opened_members}
 use Rattle.fat.proofs.open.Goals as goal
 
 pub returns-in-Refused : goal.returns-in-Refused

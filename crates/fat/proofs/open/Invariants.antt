@@ -2,13 +2,11 @@
 -- wrap.
 -- The measure is what is left.
 -- Assumes nothing.
-use native.Mathlib.Omega.{arith}
-use mathlib.Core.Path.{◌≡◌, refl, sym, ◌∙◌}
+use mathlib.Core.Path.{◌≡◌}
 use Prim.Native.Nat.{◌+◌, ◌*◌}
 use Rattle.fat_member.specs.FatArch.{fat_arch}
 use Rattle.fat.specs.Fat.{members_at}
-use Rattle.fat.proofs.Laws.{counted, members_on, members_stop, members_none, opened_refused, opened_members}
-use borrow.Author.Rules.{rules}
+use Rattle.fat.proofs.Laws.{counted}
 use Rattle.fat.proofs.open.Given as goal
 
 abbrev pub invariant-loop-left : goal.invariant-loop-left

@@ -9,7 +9,6 @@ use Rattle.layout.specs.Layout.{numbers_at}
 use Rattle.cursor.proofs.Laws.{new_at, u32_took, u32_cut}
 use Rattle.fat_member.specs.FatArch.{fat_arch}
 use Rattle.fat_member.proofs.Laws.{number_there, member_no_front, member_past, member_no_back, member_whole}
-use borrow.Author.Rules.{rules}
 use Rattle.fat_member.proofs.read.Goals as goal
 
 pub returns-in-Refused : goal.returns-in-Refused

@@ -1,6 +1,5 @@
 -- `fields::put_u32` meets its contract: the two halves, put one behind the other, are the number.
 -- Assumes nothing.
-use borrow.Author.Rules.{rules}
 use native.Mathlib.Omega.{arith}
 use mathlib.Core.Bool.{true, false}
 use Rattle.fields.proofs.Laws.{put_joined}

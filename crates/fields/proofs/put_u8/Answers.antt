@@ -1,6 +1,5 @@
 -- `fields::put_u8` meets its contract: a store of one byte puts it.
 -- Assumes nothing.
-use borrow.Author.Rules.{rules}
 use native.Mathlib.Omega.{arith}
 use Rattle.fields.proofs.Laws.{put_one}
 use Rattle.fields.proofs.put_u8.Goals as goal

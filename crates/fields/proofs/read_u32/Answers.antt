@@ -1,8 +1,6 @@
 -- `fields::read_u32` meets its contract: the two halves that were read join to the number; where one is missing, the field ends past the
 -- bytes.
 -- Assumes nothing.
-use mathlib.Core.Path.{◌∙◌}
-use borrow.Author.Rules.{rules}
 use native.Mathlib.Omega.{arith}
 use Rattle.fields.proofs.Laws.{field_value, field_cut, u16_found, u16_missed, halves_found}
 use Rattle.fields.proofs.read_u32.Goals as goal

@@ -1,9 +1,8 @@
 -- `fields::read_u8` meets its contract: the byte is there, or the field ends past the bytes.
 -- Assumes nothing.
-use borrow.Author.Rules.{rules}
 use native.Mathlib.Omega.{arith}
 use Rattle.fields.proofs.Laws.{field_value, field_cut}
-use mathlib.Core.Path.{sym, ◌∙◌}
+use mathlib.Core.Path.{sym}
 use Rattle.fields.proofs.Number.{number_one}
 use Rattle.fields.proofs.read_u8.Goals as goal
 

@@ -1,6 +1,5 @@
 -- `fields::write_u64` meets its contract: the test is whether the field fits.
 -- Assumes nothing.
-use borrow.Author.Rules.{rules}
 use mathlib.Core.Path.{sym, ◌∙◌}
 use borrow.Author.Tests.{leb-true, leb-false}
 use Rattle.fields.proofs.Laws.{store_done, store_refused}

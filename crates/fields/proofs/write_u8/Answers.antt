@@ -1,6 +1,5 @@
 -- `fields::write_u8` meets its contract: the test is whether the field fits.
 -- Assumes nothing.
-use borrow.Author.Rules.{rules}
 use native.Mathlib.Omega.{arith}
 use Rattle.fields.proofs.Laws.{store_done, store_refused}
 use Rattle.fields.proofs.Number.{length_bytes}

@@ -12,7 +12,6 @@ use Rattle.layout.proofs.Laws.{missed_at, full_is}
 use Rattle.pe_coff.specs.Coff.{read_of}
 use Rattle.pe_coff.specs.declared.ReadCoffHeader.TheVariants.{Refused}
 use Rattle.pe_coff.proofs.Laws.{early, late, coff_many, coff_rest}
-use borrow.Author.Rules.{rules}
 use Rattle.pe_coff.proofs.read.Goals as goal
 
 pub returns-in-Refused : goal.returns-in-Refused

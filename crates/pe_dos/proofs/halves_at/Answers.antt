@@ -2,12 +2,11 @@
 -- The measure is what is left of 29.
 -- Assumes nothing.
 use native.Mathlib.Omega.{arith}
-use Prim.Native.Nat.{◌+◌, ◌*◌, ◌-◌, ◌≤◌, ◌<◌}
+use Prim.Native.Nat.{◌+◌, ◌*◌, ◌-◌}
 use mathlib.Core.Path.{◌≡◌, refl}
 use mathlib.Core.List.{[]}
 use mathlib.Core.Bool.{false}
-use lib.ListN.{length, take, length-set}
-use borrow.Author.Rules.{rules}
+use lib.ListN.{length-set}
 use Rattle.layout.specs.Layout.{array, numbers_at}
 use Rattle.layout.proofs.Laws.{run_cut, run_read, run_end, full_is}
 use Rattle.cursor.proofs.Laws.{new_at, u16_took, u16_cut}

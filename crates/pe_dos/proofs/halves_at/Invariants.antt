@@ -1,17 +1,12 @@
 -- `pe_dos::halves_at` meets its contract. The invariant: the numbers before `i` are those of the run, and `at` is after them.
 -- The measure is what is left of 29.
 -- Assumes nothing.
-use native.Mathlib.Omega.{arith}
 use Prim.Native.Nat.{◌+◌, ◌*◌, ◌-◌, ◌≤◌, ◌<◌}
-use mathlib.Core.Path.{◌≡◌, refl}
+use mathlib.Core.Path.{◌≡◌}
 use mathlib.Core.List.{[]}
 use mathlib.Core.Bool.{false}
-use lib.ListN.{length, take, length-set}
-use borrow.Author.Rules.{rules}
+use lib.ListN.{length, take}
 use Rattle.layout.specs.Layout.{array, numbers_at}
-use Rattle.layout.proofs.Laws.{run_cut, run_read, run_end, full_is}
-use Rattle.cursor.proofs.Laws.{new_at, u16_took, u16_cut}
-use Rattle.pe_dos.specs.Code.{halves_at}
 use Rattle.pe_dos.proofs.halves_at.Given as goal
 
 abbrev pub invariant-loop-i : goal.invariant-loop-i

@@ -2,14 +2,9 @@
 -- The measure is what is left of 30.
 -- Assumes nothing.
 use native.Mathlib.Omega.{arith}
-use Prim.Native.Nat.{◌+◌, ◌*◌, ◌-◌, ◌≤◌}
-use mathlib.Core.Path.{◌≡◌, refl}
-use mathlib.Core.List.{[]}
+use Prim.Native.Nat.{◌-◌}
+use mathlib.Core.Path.{refl}
 use mathlib.Core.Bool.{false}
-use lib.ListN.{length}
-use borrow.Author.Rules.{rules}
-use Rattle.fields.specs.Field.{put}
-use Rattle.layout.specs.Layout.{array, write_by}
 use Rattle.layout.proofs.Laws.{put_none, run_wrote}
 use Rattle.pe_dos.proofs.put_halves.Goals as goal
 

@@ -1,16 +1,13 @@
 -- `pe_dos::put_halves` meets its contract. The invariant: the first `i` numbers are put, and nothing else.
 -- The measure is what is left of 30.
 -- Assumes nothing.
-use native.Mathlib.Omega.{arith}
 use Prim.Native.Nat.{◌+◌, ◌*◌, ◌-◌, ◌≤◌}
-use mathlib.Core.Path.{◌≡◌, refl}
+use mathlib.Core.Path.{◌≡◌}
 use mathlib.Core.List.{[]}
 use mathlib.Core.Bool.{false}
 use lib.ListN.{length}
-use borrow.Author.Rules.{rules}
 use Rattle.fields.specs.Field.{put}
 use Rattle.layout.specs.Layout.{array, write_by}
-use Rattle.layout.proofs.Laws.{put_none, run_wrote}
 use Rattle.pe_dos.proofs.put_halves.Given as goal
 
 abbrev pub invariant-loop-i : goal.invariant-loop-i

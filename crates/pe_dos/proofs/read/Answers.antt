@@ -7,7 +7,6 @@ use Prim.Native.Nat.{◌+◌}
 use Rattle.fields.specs.Number.{number_at}
 use Rattle.cursor.proofs.Laws.{new_at, u16_took, u16_cut, u32_took, u32_cut}
 use Rattle.pe_dos.proofs.Laws.{dos_missed, dos_wrong, dos_rest, run_missed, run_whole, pointer_missed, pointer_read}
-use borrow.Author.Rules.{rules}
 use Rattle.pe_dos.proofs.read.Goals as goal
 
 pub returns-in-Refused : goal.returns-in-Refused

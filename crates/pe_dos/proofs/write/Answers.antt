@@ -10,7 +10,6 @@ use borrow.Author.Tests.{leb-true, leb-false}
 use Rattle.layout.proofs.Laws.{stored_at}
 use Rattle.pe_dos.specs.Dos.{dos_header}
 use Rattle.pe_dos.proofs.Laws.{write_wrong, write_done, write_refused, halves_wrote}
-use borrow.Author.Rules.{rules}
 use Rattle.pe_dos.proofs.write.Goals as goal
 
 pub returns-then-header-ne-SIGNATURE : goal.returns-then-header-ne-SIGNATURE

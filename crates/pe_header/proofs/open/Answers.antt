@@ -1,7 +1,6 @@
 -- `pe_header::open` meets its contract: at each `return`, what the readers answered on the way are the premises of a law of `open_of`.
 -- Assumes nothing.
 use Rattle.pe_header.proofs.Laws.{open_long, open_pointer, open_coff, open_optional, open_rows, open_whole}
-use borrow.Author.Rules.{rules}
 use Rattle.pe_header.proofs.open.Goals as goal
 
 pub returns-then-file-gt-FILE_LIMIT : goal.returns-then-file-gt-FILE_LIMIT

@@ -3,7 +3,6 @@
 use native.Mathlib.Omega.{arith}
 use Rattle.cursor.proofs.Laws.{new_at, u32_took, u32_cut}
 use Rattle.pe_header.proofs.Laws.{coff_missed, coff_wrong, coff_there_lem}
-use borrow.Author.Rules.{rules}
 use Rattle.pe_header.proofs.read_coff.Goals as goal
 
 pub returns-in-Refused : goal.returns-in-Refused

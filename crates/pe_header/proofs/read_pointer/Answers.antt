@@ -1,7 +1,6 @@
 -- `pe_header::read_pointer` meets its contract: the outcome of the DOS header tells which case it is.
 -- Assumes nothing.
 use Rattle.pe_header.proofs.Laws.{pointer_read, pointer_missed}
-use borrow.Author.Rules.{rules}
 use Rattle.pe_header.proofs.read_pointer.Goals as goal
 
 pub returns-in-Whole : goal.returns-in-Whole

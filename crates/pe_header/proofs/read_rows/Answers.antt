@@ -2,10 +2,9 @@
 -- The measure is the number of rows left.
 -- Assumes nothing.
 use native.Mathlib.Omega.{arith}
-use mathlib.Core.Path.{◌≡◌, refl, sym, ◌∙◌}
-use borrow.Author.Rules.{rules}
+use mathlib.Core.Path.{sym, ◌∙◌}
 use Rattle.pe_section.proofs.Laws.{row_whole}
-use Rattle.pe_header.proofs.Laws.{check_rows, rows_none, rows_missed, rows_on}
+use Rattle.pe_header.proofs.Laws.{rows_none, rows_missed, rows_on}
 use Rattle.pe_header.proofs.read_rows.Goals as goal
 
 pub returns-in-Refused : goal.returns-in-Refused

@@ -1,11 +1,8 @@
 -- `pe_header::read_rows` meets its contract. The invariant: what is left of the rows answers as the whole.
 -- The measure is the number of rows left.
 -- Assumes nothing.
-use native.Mathlib.Omega.{arith}
-use mathlib.Core.Path.{◌≡◌, refl, sym, ◌∙◌}
-use borrow.Author.Rules.{rules}
-use Rattle.pe_section.proofs.Laws.{row_whole}
-use Rattle.pe_header.proofs.Laws.{check_rows, rows_none, rows_missed, rows_on}
+use mathlib.Core.Path.{◌≡◌}
+use Rattle.pe_header.proofs.Laws.{check_rows}
 use Rattle.pe_header.proofs.read_rows.Given as goal
 
 abbrev pub invariant-loop-left : goal.invariant-loop-left

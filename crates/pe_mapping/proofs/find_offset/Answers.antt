@@ -2,7 +2,6 @@
 -- Assumes nothing.
 use mathlib.Core.Path.{sym, ◌∙◌}
 use Rattle.pe_mapping.proofs.Laws.{power_positive, offset_long, offset_many, offset_unaligned, offset_first}
-use borrow.Author.Rules.{rules}
 use Rattle.pe_mapping.proofs.find_offset.Goals as goal
 
 pub returns-then-file-gt-FILE_LIMIT : goal.returns-then-file-gt-FILE_LIMIT

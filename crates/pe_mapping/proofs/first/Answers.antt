@@ -2,10 +2,8 @@
 -- The measure is the number of rows left.
 -- Assumes nothing.
 use native.Mathlib.Omega.{arith}
-use mathlib.Core.Path.{◌≡◌, refl, sym, ◌∙◌}
-use borrow.Author.Rules.{rules}
+use mathlib.Core.Path.{sym, ◌∙◌}
 use Rattle.pe_section.proofs.Laws.{row_whole}
-use Rattle.pe_mapping.specs.Mapping.{first_of}
 use Rattle.pe_mapping.proofs.Laws.{readable_most, holds_told, first_none, first_cut, first_holds, first_on}
 use Rattle.pe_mapping.proofs.first.Goals as goal
 

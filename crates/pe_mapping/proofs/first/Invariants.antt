@@ -1,12 +1,8 @@
 -- `pe_mapping::first` meets its contract. The invariant: what is left of the search answers as the whole.
 -- The measure is the number of rows left.
 -- Assumes nothing.
-use native.Mathlib.Omega.{arith}
-use mathlib.Core.Path.{◌≡◌, refl, sym, ◌∙◌}
-use borrow.Author.Rules.{rules}
-use Rattle.pe_section.proofs.Laws.{row_whole}
+use mathlib.Core.Path.{◌≡◌}
 use Rattle.pe_mapping.specs.Mapping.{first_of}
-use Rattle.pe_mapping.proofs.Laws.{readable_most, holds_told, first_none, first_cut, first_holds, first_on}
 use Rattle.pe_mapping.proofs.first.Given as goal
 
 abbrev pub invariant-loop-left : goal.invariant-loop-left

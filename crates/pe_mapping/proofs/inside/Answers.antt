@@ -1,7 +1,6 @@
 -- `pe_mapping::inside` meets its contract: at each `return`, the tests that led there are the premises of a law of `holds`.
 -- Assumes nothing.
 use Rattle.pe_mapping.proofs.Laws.{holds_below, holds_past, holds_in}
-use borrow.Author.Rules.{rules}
 use Rattle.pe_mapping.proofs.inside.Goals as goal
 
 pub returns-then-address-start : goal.returns-then-address-start

@@ -1,10 +1,7 @@
 -- `pe_mapping::power_of_two` meets its contract. The invariant: no power from 2 ^ left on is the number. The measure is what is left.
 -- Assumes nothing.
-use borrow.Author.Rules.{rules}
 use native.Mathlib.Omega.{arith}
-use mathlib.Core.Path.{◌≡◌, refl, sym, ◌∙◌}
-use Prim.Native.Nat.{◌≤◌, ◌^◌}
-use Rattle.pe_mapping.specs.Mapping.{power_below}
+use mathlib.Core.Path.{sym, ◌∙◌}
 use Rattle.pe_mapping.proofs.Laws.{power_half, power_is, power_other, power_none}
 use Rattle.pe_mapping.proofs.power_of_two.Goals as goal
 

@@ -5,7 +5,6 @@ use mathlib.Core.Path.{refl}
 use native.Mathlib.Omega.{arith}
 use Prim.Native.Nat.{◌+◌}
 use Rattle.pe_mapping.proofs.Laws.{up_least, readable_none, readable_in_file_lem, readable_least}
-use borrow.Author.Rules.{rules}
 use Rattle.pe_mapping.proofs.readable.Goals as goal
 
 pub returns-then-raw-eq0 : goal.returns-then-raw-eq0

@@ -3,7 +3,6 @@
 use native.Mathlib.Omega.{arith}
 use Rattle.cursor.proofs.Laws.{new_at, u16_took, u16_cut}
 use Rattle.pe_optional.proofs.Laws.{optional_missed, optional_narrow, optional_wide, optional_wrong}
-use borrow.Author.Rules.{rules}
 use Rattle.pe_optional.proofs.read.Goals as goal
 
 pub returns-in-Refused : goal.returns-in-Refused

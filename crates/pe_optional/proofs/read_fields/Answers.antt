@@ -1,13 +1,11 @@
 -- `pe_optional::read_fields` meets its contract: what each needed field answers tells how the definition goes on.
 -- Assumes nothing.
-use native.Mathlib.Omega.{arith}
 use mathlib.Core.Path.{refl}
 use borrow.Author.Tests.{le-leb, lt-leb}
 use Rattle.answer.proofs.Laws.{must_on, must_off}
 use Rattle.pe_optional.specs.Optional.{fields_at}
 use Rattle.pe_optional.specs.declared.ReadOptionalHeader.TheVariants.{Refused}
-use Rattle.pe_optional.proofs.Laws.{needed_on, needed_stop, exception_small}
-use borrow.Author.Rules.{rules}
+use Rattle.pe_optional.proofs.Laws.{needed_on, needed_stop}
 use Rattle.pe_optional.proofs.read_fields.Goals as goal
 
 pub returns-then-size-lt2 : goal.returns-then-size-lt2

@@ -5,7 +5,6 @@ use mathlib.Core.Path.{sym, ap, ◌∙◌}
 use Rattle.cursor.proofs.Laws.{new_at, u32_took, u32_cut}
 use Rattle.fields.specs.declared.ReadU32.TheVariants as word
 use Rattle.pe_optional.proofs.Laws.{needed_missed, needed_past, needed_outside, needed_value}
-use borrow.Author.Rules.{rules}
 use Rattle.pe_optional.proofs.read_needed.Goals as goal
 
 pub returns-then-offset-at : goal.returns-then-offset-at

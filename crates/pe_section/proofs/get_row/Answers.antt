@@ -2,7 +2,6 @@
 -- Assumes nothing.
 use native.Mathlib.Omega.{arith}
 use Rattle.pe_section.proofs.Laws.{row_past, section_long, section_many, section_none, section_row}
-use borrow.Author.Rules.{rules}
 use Rattle.pe_section.proofs.get_row.Goals as goal
 
 pub returns-then-file-gt-FILE_LIMIT : goal.returns-then-file-gt-FILE_LIMIT

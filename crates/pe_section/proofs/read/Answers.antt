@@ -9,7 +9,6 @@ use Rattle.cursor.proofs.Laws.{new_at, u16_took, u16_cut, u32_took, u32_cut, u64
 use Rattle.layout.proofs.Laws.{missed_at, full_is}
 use Rattle.pe_section.specs.Section.{section_table_of, read_of}
 use Rattle.pe_section.specs.declared.ReadSectionTable.TheVariants.{Refused}
-use borrow.Author.Rules.{rules}
 use Rattle.pe_section.proofs.read.Goals as goal
 
 pub returns-in-Refused : goal.returns-in-Refused

@@ -9,7 +9,6 @@ use Rattle.cursor.proofs.Laws.{new_at, u32_took, u32_cut}
 use Rattle.layout.proofs.Laws.{missed_at, full_is}
 use Rattle.runtime_function.specs.RuntimeFunction.{runtime_function, read_of}
 use Rattle.runtime_function.specs.declared.ReadRuntimeFunction.TheVariants.{Refused}
-use borrow.Author.Rules.{rules}
 use Rattle.runtime_function.proofs.read.Goals as goal
 
 pub returns-in-Refused : goal.returns-in-Refused

@@ -2,13 +2,12 @@
 -- Assumes nothing.
 use native.Mathlib.Omega.{arith}
 use mathlib.Core.Bool.{false}
-use mathlib.Core.Path.{refl, sym, ◌∙◌}
+use mathlib.Core.Path.{sym, ◌∙◌}
 use Prim.Native.Nat.{◌+◌, ◌≤◌, ◌<◌}
 use lib.ListN.{length}
 use borrow.Author.Tests.{leb-true, leb-false}
 use Rattle.layout.proofs.Laws.{put_none, stored_at, record_done, record_refused}
 use Rattle.runtime_function.specs.RuntimeFunction.{runtime_function, numbers_of}
-use borrow.Author.Rules.{rules}
 use Rattle.runtime_function.proofs.write.Goals as goal
 
 pub returns-then-fits : goal.returns-then-fits

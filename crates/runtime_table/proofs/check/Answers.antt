@@ -4,7 +4,6 @@ use native.Mathlib.Omega.{arith}
 use mathlib.Core.Path.{sym, ◌∙◌}
 use Rattle.answer.proofs.Laws.{cut_beyond}
 use Rattle.runtime_table.proofs.Laws.{check_long, check_past, check_disorder, check_on}
-use borrow.Author.Rules.{rules}
 use Rattle.runtime_table.proofs.check.Goals as goal
 
 pub returns-then-file-gt-FILE_LIMIT : goal.returns-then-file-gt-FILE_LIMIT

@@ -3,7 +3,6 @@
 use native.Mathlib.Omega.{arith}
 use Rattle.runtime_table.specs.Table.{get_entry_of}
 use Rattle.runtime_table.proofs.Laws.{record_past}
-use borrow.Author.Rules.{rules}
 use Rattle.runtime_table.proofs.get_entry.Goals as goal
 
 pub returns-then-table-index : goal.returns-then-table-index

@@ -2,9 +2,7 @@
 -- measure is the number of those left.
 -- Assumes nothing.
 use Prim.Native.Nat.{◌-◌}
-use borrow.Author.Rules.{rules}
-use Rattle.runtime_table.specs.Table.{table_of}
-use Rattle.runtime_table.proofs.Laws.{entry_whole, seen_begin, seen_end, lies_read, Passed, pass_none, pass_all, pass_meets, pass_empty, pass_on}
+use Rattle.runtime_table.proofs.Laws.{entry_whole, seen_begin, seen_end, lies_read, pass_all, pass_meets, pass_empty, pass_on}
 use Rattle.runtime_table.proofs.in_order.Goals as goal
 
 pub returns-then-e-end : goal.returns-then-e-end

@@ -2,7 +2,6 @@
 -- Assumes nothing.
 use native.Mathlib.Omega.{arith}
 use Rattle.runtime_table.proofs.Laws.{lies_none, lies_as, lies_over}
-use borrow.Author.Rules.{rules}
 use Rattle.runtime_table.proofs.lies.Goals as goal
 
 pub returns-then-count-eq0 : goal.returns-then-count-eq0

@@ -6,7 +6,6 @@ use mathlib.Core.Path.{sym, ap, ◌∙◌}
 use Rattle.unwind_info.proofs.Laws.{header_told, header_start}
 use Rattle.unwind_codes.specs.Codes.{codes_of, checked_of}
 use Rattle.unwind_codes.proofs.Laws.{count_told, refusal_told, whole_long, whole_header, whole_codes, whole_follows, whole_is, checked_is}
-use borrow.Author.Rules.{rules}
 use Rattle.unwind_codes.proofs.check_info.Goals as goal
 
 pub returns-then-file-gt-FILE_LIMIT : goal.returns-then-file-gt-FILE_LIMIT

@@ -2,7 +2,6 @@
 -- Assumes nothing.
 use Rattle.unwind_codes.specs.Codes.{codes_of}
 use Rattle.unwind_codes.proofs.Laws.{slots_lent}
-use borrow.Author.Rules.{rules}
 use Rattle.unwind_codes.proofs.count.Goals as goal
 
 pub returns : goal.returns

@@ -2,14 +2,10 @@
 -- The measure is the number of slots left.
 -- Assumes nothing.
 use native.Mathlib.Omega.{arith}
-use mathlib.Core.Path.{◌≡◌, sym, ◌∙◌}
-use Prim.Native.Nat.{◌-◌, ◌≤◌}
-use Rattle.unwind_operation.specs.Operation.{slot_count}
+use mathlib.Core.Path.{sym, ◌∙◌}
+use Prim.Native.Nat.{◌-◌}
 use Rattle.unwind_operation.proofs.Laws.{code_within}
-use Rattle.unwind_codes.specs.Codes.{codes_at}
-use Rattle.unwind_codes.specs.Code.{count_in}
-use Rattle.unwind_codes.proofs.Laws.{count_from, count_start, count_end, count_refused, count_more}
-use borrow.Author.Rules.{rules}
+use Rattle.unwind_codes.proofs.Laws.{count_end, count_refused, count_more}
 use Rattle.unwind_codes.proofs.count_in.Goals as goal
 
 pub loop-place-smaller : goal.loop-place-smaller

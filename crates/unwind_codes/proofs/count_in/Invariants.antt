@@ -1,15 +1,12 @@
 -- `unwind_codes::count_in` meets its contract. The invariant: the number of the codes from here on, and of those passed, is that of all.
 -- The measure is the number of slots left.
 -- Assumes nothing.
-use native.Mathlib.Omega.{arith}
-use mathlib.Core.Path.{◌≡◌, sym, ◌∙◌}
+use mathlib.Core.Path.{◌≡◌}
 use Prim.Native.Nat.{◌-◌, ◌≤◌}
 use Rattle.unwind_operation.specs.Operation.{slot_count}
-use Rattle.unwind_operation.proofs.Laws.{code_within}
 use Rattle.unwind_codes.specs.Codes.{codes_at}
 use Rattle.unwind_codes.specs.Code.{count_in}
-use Rattle.unwind_codes.proofs.Laws.{count_from, count_start, count_end, count_refused, count_more}
-use borrow.Author.Rules.{rules}
+use Rattle.unwind_codes.proofs.Laws.{count_from}
 use Rattle.unwind_codes.proofs.count_in.Given as goal
 
 abbrev pub invariant-loop-place : goal.invariant-loop-place

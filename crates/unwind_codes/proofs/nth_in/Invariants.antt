@@ -1,14 +1,10 @@
 -- `unwind_codes::nth_in` meets its contract. The invariant: the code to reach is the one at the index that is left, of the codes from here
 -- on. The measure is the number of slots left.
 -- Assumes nothing.
-use native.Mathlib.Omega.{arith}
-use mathlib.Core.Path.{◌≡◌, refl, sym, ◌∙◌}
+use mathlib.Core.Path.{◌≡◌}
 use Prim.Native.Nat.{◌-◌}
 use Rattle.unwind_operation.specs.Operation.{slot_count}
-use Rattle.unwind_operation.proofs.Laws.{code_within}
 use Rattle.unwind_codes.specs.Codes.{codes_at, nth_of}
-use Rattle.unwind_codes.proofs.Laws.{nth_past, nth_refused, nth_here, nth_more}
-use borrow.Author.Rules.{rules}
 use Rattle.unwind_codes.proofs.nth_in.Given as goal
 
 abbrev pub invariant-loop-place : goal.invariant-loop-place

@@ -6,7 +6,6 @@ use mathlib.Core.Path.{sym, ap, ◌∙◌}
 use Rattle.unwind_info.proofs.Laws.{header_told, header_start}
 use Rattle.unwind_codes.specs.Code.{nth_in}
 use Rattle.unwind_codes.proofs.Laws.{code_long, code_header, code_refused, code_here, code_past, code_here_cut, code_past_cut}
-use borrow.Author.Rules.{rules}
 use Rattle.unwind_codes.proofs.read_code.Goals as goal
 
 pub returns-then-file-gt-FILE_LIMIT : goal.returns-then-file-gt-FILE_LIMIT

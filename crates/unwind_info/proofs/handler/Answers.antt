@@ -3,7 +3,6 @@
 use native.Mathlib.Omega.{arith}
 use Rattle.cursor.proofs.Laws.{new_at, u32_took, u32_cut}
 use Rattle.unwind_info.proofs.Laws.{handler_cut, handler_there}
-use borrow.Author.Rules.{rules}
 use Rattle.unwind_info.proofs.handler.Goals as goal
 
 pub overflow_sub-result : goal.overflow_sub-result

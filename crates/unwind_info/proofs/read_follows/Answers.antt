@@ -2,7 +2,6 @@
 -- Assumes nothing.
 use borrow.Author.Tests.{eq-eqb, ne_eqb}
 use Rattle.unwind_info.proofs.Laws.{chained_there, chained_cut, follows_chained, follows_exception, follows_termination, follows_nothing}
-use borrow.Author.Rules.{rules}
 use Rattle.unwind_info.proofs.read_follows.Goals as goal
 
 pub returns-in-Value : goal.returns-in-Value

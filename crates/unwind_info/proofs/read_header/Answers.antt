@@ -3,7 +3,6 @@
 use mathlib.Core.Path.{sym, ◌∙◌}
 use Rattle.cursor.proofs.Laws.{new_at, u8_took, u8_cut}
 use Rattle.unwind_info.proofs.Laws.{header_cut, header_version, header_rest}
-use borrow.Author.Rules.{rules}
 use Rattle.unwind_info.proofs.read_header.Goals as goal
 
 pub returns-then-known_version : goal.returns-then-known_version

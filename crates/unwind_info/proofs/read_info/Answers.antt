@@ -2,7 +2,6 @@
 -- `read_info_of`.
 -- Assumes nothing.
 use Rattle.unwind_info.proofs.Laws.{info_long, info_refused, info_cut, info_whole}
-use borrow.Author.Rules.{rules}
 use Rattle.unwind_info.proofs.read_info.Goals as goal
 
 pub returns-then-file-gt-FILE_LIMIT : goal.returns-then-file-gt-FILE_LIMIT

@@ -14,7 +14,6 @@ use Rattle.unwind_operation.proofs.Laws.{info_of_lem}
 use Rattle.unwind_info.specs.Unwind.{others, rest_at}
 use Rattle.unwind_info.specs.declared.ReadHeader.TheVariants.{Refused}
 use Rattle.unwind_info.proofs.Laws.{slots_there, slots_cut, rest_whole}
-use borrow.Author.Rules.{rules}
 use Rattle.unwind_info.proofs.rest.Goals as goal
 
 pub returns-in-Refused : goal.returns-in-Refused

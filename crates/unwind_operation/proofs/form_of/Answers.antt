@@ -5,7 +5,6 @@ use native.Mathlib.Omega.{arith}
 use borrow.Author.Tests.{eq-eqb, ne_eqb}
 use Rattle.unwind_operation.specs.Operation.{form_of}
 use Rattle.unwind_operation.proofs.Laws.{info_of_lem}
-use borrow.Author.Rules.{rules}
 use Rattle.unwind_operation.proofs.form_of.Goals as goal
 
 pub returns-in-0 : goal.returns-in-0

@@ -6,7 +6,6 @@ use mathlib.Core.Path.{sym, ap, ◌∙◌}
 use Rattle.unwind_operation.proofs.Laws.{code_version, code_passed, code_formed}
 use Rattle.unwind_operation.specs.Code.{form_in}
 use Rattle.unwind_operation.specs.declared.NextCode.TheVariants.{Refused}
-use borrow.Author.Rules.{rules}
 use Rattle.unwind_operation.proofs.next_code.Goals as goal
 
 pub returns-then-slots-place : goal.returns-then-slots-place

@@ -4,7 +4,6 @@ use native.Mathlib.Omega.{arith}
 use mathlib.Core.Path.{◌∙◌}
 use Rattle.fields.proofs.Laws.{u32_found, u32_missed}
 use Rattle.unwind_operation.proofs.Laws.{three_taken, three_passed}
-use borrow.Author.Rules.{rules}
 use Rattle.unwind_operation.proofs.three_slots.Goals as goal
 
 pub returns-in-Value : goal.returns-in-Value

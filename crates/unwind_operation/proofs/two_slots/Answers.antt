@@ -4,7 +4,6 @@ use native.Mathlib.Omega.{arith}
 use mathlib.Core.Path.{◌∙◌}
 use Rattle.fields.proofs.Laws.{u16_found, u16_missed}
 use Rattle.unwind_operation.proofs.Laws.{two_taken, two_passed}
-use borrow.Author.Rules.{rules}
 use Rattle.unwind_operation.proofs.two_slots.Goals as goal
 
 pub returns-in-Value : goal.returns-in-Value

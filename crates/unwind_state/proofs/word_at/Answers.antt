@@ -2,7 +2,6 @@
 -- Assumes nothing.
 use Rattle.unwind_state.specs.State.{word_at}
 use borrow.Author.Tests.{eq-eqb, ne_eqb, le-leb, lt-leb, lt-ltb, le-ltb}
-use borrow.Author.Rules.{rules}
 use Rattle.unwind_state.proofs.word_at.Goals as goal
 
 pub returns-then-base-ne0 : goal.returns-then-base-ne0

@@ -4,7 +4,6 @@ use Prim.Native.Nat.{◌+◌, ◌^◌, ◌<◌, ◌≤◌}
 use native.Mathlib.Omega.{arith}
 use borrow.Author.Tests.{lt-ltb, le-ltb}
 use Rattle.unwind_undo.specs.Code.{sum_of}
-use borrow.Author.Rules.{rules}
 use Rattle.unwind_undo.proofs.above.Goals as goal
 
 pub returns-then-by-from : goal.returns-then-by-from

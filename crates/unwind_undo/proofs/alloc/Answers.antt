@@ -1,7 +1,6 @@
 -- `unwind_undo::alloc` meets its contract.
 -- Assumes nothing.
 use Rattle.unwind_undo.proofs.Laws.{alloc_on, alloc_lost}
-use borrow.Author.Rules.{rules}
 use Rattle.unwind_undo.proofs.alloc.Goals as goal
 
 pub returns-in-There : goal.returns-in-There

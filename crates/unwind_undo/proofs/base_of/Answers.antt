@@ -2,7 +2,6 @@
 -- Assumes nothing.
 use borrow.Author.Tests.{eq-eqb, ne_eqb}
 use Rattle.unwind_undo.specs.Code.{base_of}
-use borrow.Author.Rules.{rules}
 use Rattle.unwind_undo.proofs.base_of.Goals as goal
 
 pub returns-then-frame-eq0 : goal.returns-then-frame-eq0

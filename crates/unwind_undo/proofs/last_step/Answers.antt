@@ -1,7 +1,6 @@
 -- `unwind_undo::last_step` meets its contract.
 -- Assumes nothing.
 use Rattle.unwind_undo.proofs.Laws.{last_caller, last_beyond, last_outside}
-use borrow.Author.Rules.{rules}
 use Rattle.unwind_undo.proofs.last_step.Goals as goal
 
 pub returns-in-There : goal.returns-in-There

@@ -1,7 +1,6 @@
 -- `unwind_undo::machine_frame` meets its contract.
 -- Assumes nothing.
 use Rattle.unwind_undo.specs.Code.{machine_frame_of, frame_above}
-use borrow.Author.Rules.{rules}
 use Rattle.unwind_undo.proofs.machine_frame.Goals as goal
 
 pub returns-then-code : goal.returns-then-code

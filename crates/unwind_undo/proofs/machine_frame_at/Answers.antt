@@ -1,7 +1,6 @@
 -- `unwind_undo::machine_frame_at` meets its contract.
 -- Assumes nothing.
 use Rattle.unwind_undo.proofs.Laws.{frame_caller, frame_lost, frame_outside}
-use borrow.Author.Rules.{rules}
 use Rattle.unwind_undo.proofs.machine_frame_at.Goals as goal
 
 pub returns-in-Held-word_above : goal.returns-in-Held-word_above

@@ -1,7 +1,6 @@
 -- `unwind_undo::push` meets its contract.
 -- Assumes nothing.
 use Rattle.unwind_undo.proofs.Laws.{push_on, push_beyond, push_outside}
-use borrow.Author.Rules.{rules}
 use Rattle.unwind_undo.proofs.push.Goals as goal
 
 pub returns-in-There : goal.returns-in-There

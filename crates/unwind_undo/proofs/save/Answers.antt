@@ -1,7 +1,6 @@
 -- `unwind_undo::save` meets its contract.
 -- Assumes nothing.
 use Rattle.unwind_undo.proofs.Laws.{save_on, save_lost}
-use borrow.Author.Rules.{rules}
 use Rattle.unwind_undo.proofs.save.Goals as goal
 
 pub returns-in-Held : goal.returns-in-Held

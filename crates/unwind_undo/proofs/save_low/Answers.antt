@@ -1,7 +1,6 @@
 -- `unwind_undo::save_low` meets its contract.
 -- Assumes nothing.
 use Rattle.unwind_undo.proofs.Laws.{low_on, low_lost}
-use borrow.Author.Rules.{rules}
 use Rattle.unwind_undo.proofs.save_low.Goals as goal
 
 pub returns-in-Held : goal.returns-in-Held

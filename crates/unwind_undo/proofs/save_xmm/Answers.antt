@@ -1,7 +1,6 @@
 -- `unwind_undo::save_xmm` meets its contract.
 -- Assumes nothing.
 use Rattle.unwind_undo.proofs.Laws.{xmm_on, xmm_high_lost, xmm_lost}
-use borrow.Author.Rules.{rules}
 use Rattle.unwind_undo.proofs.save_xmm.Goals as goal
 
 pub returns-in-Held-saved_word : goal.returns-in-Held-saved_word

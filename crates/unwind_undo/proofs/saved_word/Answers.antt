@@ -2,7 +2,6 @@
 -- Assumes nothing.
 use mathlib.Core.Path.{sym, ◌∙◌}
 use Rattle.unwind_undo.specs.Code.{saved_of}
-use borrow.Author.Rules.{rules}
 use Rattle.unwind_undo.proofs.saved_word.Goals as goal
 
 pub returns-in-There : goal.returns-in-There

@@ -1,7 +1,6 @@
 -- `unwind_undo::set_frame` meets its contract.
 -- Assumes nothing.
 use Rattle.unwind_undo.proofs.Laws.{set_on, set_lost}
-use borrow.Author.Rules.{rules}
 use Rattle.unwind_undo.proofs.set_frame.Goals as goal
 
 pub returns-in-There : goal.returns-in-There

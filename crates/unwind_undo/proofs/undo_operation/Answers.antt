@@ -2,7 +2,6 @@
 -- Assumes nothing.
 use Rattle.unwind_undo.specs.Undo.{undo_of}
 use Rattle.unwind_undo.specs.Code.{undo_operation_of, push_of, alloc_of, set_frame_of, save_of, save_low_of, save_xmm_of, machine_frame_of}
-use borrow.Author.Rules.{rules}
 use Rattle.unwind_undo.proofs.undo_operation.Goals as goal
 
 pub returns-in-PushNonVolatile : goal.returns-in-PushNonVolatile

@@ -1,7 +1,6 @@
 -- `unwind_undo::word_above` meets its contract.
 -- Assumes nothing.
 use Rattle.unwind_undo.proofs.Laws.{word_there, word_beyond}
-use borrow.Author.Rules.{rules}
 use Rattle.unwind_undo.proofs.word_above.Goals as goal
 
 pub returns-in-There : goal.returns-in-There

@@ -1,7 +1,6 @@
 -- `verdef::auxiliaries` meets its contract: it is the list of auxiliaries from the place that the row gives.
 -- Assumes nothing.
 use Rattle.verdef.specs.Verdef.{auxiliaries_of, auxiliaries_out}
-use borrow.Author.Rules.{rules}
 use Rattle.verdef.proofs.auxiliaries.Goals as goal
 
 pub returns : goal.returns

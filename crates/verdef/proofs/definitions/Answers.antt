@@ -1,7 +1,6 @@
 -- `verdef::definitions` meets its contract: it is the list of definitions from the section's start.
 -- Assumes nothing.
 use Rattle.verdef.specs.Verdef.{definitions_of, definitions_out}
-use borrow.Author.Rules.{rules}
 use Rattle.verdef.proofs.definitions.Goals as goal
 
 pub returns : goal.returns

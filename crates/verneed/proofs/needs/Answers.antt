@@ -1,7 +1,6 @@
 -- `verneed::needs` meets its contract: it is the list of needs from the section's start.
 -- Assumes nothing.
 use Rattle.verneed.specs.Verneed.{needs_of, needs_out}
-use borrow.Author.Rules.{rules}
 use Rattle.verneed.proofs.needs.Goals as goal
 
 pub returns : goal.returns

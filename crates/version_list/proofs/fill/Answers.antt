@@ -2,14 +2,10 @@
 -- what it shall be in the end.
 -- Assumes nothing.
 use native.Mathlib.Omega.{arith}
-use borrow.Author.Rules.{rules}
-use mathlib.Core.Path.{◌≡◌, refl, ◌∙◌}
-use Prim.Native.Nat.{suc, ◌+◌, ◌*◌, ◌≤◌}
+use mathlib.Core.Path.{◌≡◌, ◌∙◌}
+use Prim.Native.Nat.{suc, ◌+◌}
 use lib.ListN.{length}
-use Rattle.fields.specs.Field.{put}
 use Rattle.version_record.specs.Record.{layout}
-use Rattle.version_record.proofs.Laws.{sized}
-use Rattle.version_list.specs.List.{entries_from, flat}
 use Rattle.version_list.proofs.Laws.{more, first_of_lem, rest_put, all_put}
 use Rattle.version_list.proofs.fill.Goals as goal
 

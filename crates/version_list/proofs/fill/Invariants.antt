@@ -1,16 +1,12 @@
 -- `version_list::fill` meets its contract. The invariant of its loop: the rows that are left, written from the base on, make of the list
 -- what it shall be in the end.
 -- Assumes nothing.
-use native.Mathlib.Omega.{arith}
-use borrow.Author.Rules.{rules}
-use mathlib.Core.Path.{◌≡◌, refl, ◌∙◌}
+use mathlib.Core.Path.{◌≡◌}
 use Prim.Native.Nat.{suc, ◌+◌, ◌*◌, ◌≤◌}
 use lib.ListN.{length}
 use Rattle.fields.specs.Field.{put}
 use Rattle.version_record.specs.Record.{layout}
-use Rattle.version_record.proofs.Laws.{sized}
 use Rattle.version_list.specs.List.{entries_from, flat}
-use Rattle.version_list.proofs.Laws.{more, first_of_lem, rest_put, all_put}
 use Rattle.version_list.proofs.fill.Given as goal
 
 abbrev pub invariant-loop-left : goal.invariant-loop-left

@@ -1,13 +1,8 @@
 -- `version_list::list` meets its contract: the checks are made in order, and where they pass the section is a part of the file.
 -- Assumes nothing.
-use native.Mathlib.Omega.{arith}
 use mathlib.Core.Path.{sym, ◌∙◌}
-use Prim.Native.Nat.{◌+◌, ◌≤◌}
-use lib.ListN.{length, length-take, length-drop}
-use borrow.Author.Tests.{leb-true}
 use Rattle.version_section.proofs.Laws.{part_section}
 use Rattle.version_list.proofs.Laws.{long_file, many_stated, past_file_lem, in_file_lem}
-use borrow.Author.Rules.{rules}
 use Rattle.version_list.proofs.list.Goals as goal
 
 pub returns-then-file-gt-FILE_LIMIT : goal.returns-then-file-gt-FILE_LIMIT

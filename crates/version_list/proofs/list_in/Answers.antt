@@ -8,7 +8,6 @@ use Rattle.version_record.specs.Record.{layout}
 use Rattle.version_record.proofs.Laws.{sized}
 use Rattle.version_list.specs.List.{entries_from, flat}
 use Rattle.version_list.proofs.Laws.{few, product, same_rows, all_rows, rows_room, counted_full, counted_whole, counted_cut}
-use borrow.Author.Rules.{rules}
 use Rattle.version_list.proofs.list_in.Goals as goal
 
 pub overflow_mul-entries : goal.overflow_mul-entries

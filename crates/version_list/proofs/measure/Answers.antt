@@ -2,11 +2,7 @@
 -- the whole list, and the whole list ends as the one that is left does.
 -- Assumes nothing.
 use native.Mathlib.Omega.{arith}
-use borrow.Author.Rules.{rules}
-use mathlib.Core.Path.{◌≡◌, refl, sym, ◌∙◌}
-use Prim.Native.Nat.{◌+◌}
-use lib.ListN.{length}
-use Rattle.version_list.specs.List.{entries_from}
+use mathlib.Core.Path.{sym, ◌∙◌}
 use Rattle.version_list.proofs.Laws.{count_none, count_next, count_last, count_bad, next_there}
 use Rattle.version_list.proofs.measure.Goals as goal
 

@@ -1,13 +1,10 @@
 -- `version_list::measure` meets its contract. The invariant of its loop: the entries passed and those of the list that is left are those of
 -- the whole list, and the whole list ends as the one that is left does.
 -- Assumes nothing.
-use native.Mathlib.Omega.{arith}
-use borrow.Author.Rules.{rules}
-use mathlib.Core.Path.{◌≡◌, refl, sym, ◌∙◌}
+use mathlib.Core.Path.{◌≡◌}
 use Prim.Native.Nat.{◌+◌}
 use lib.ListN.{length}
 use Rattle.version_list.specs.List.{entries_from}
-use Rattle.version_list.proofs.Laws.{count_none, count_next, count_last, count_bad, next_there}
 use Rattle.version_list.proofs.measure.Given as goal
 
 abbrev pub invariant-loop-left : goal.invariant-loop-left

@@ -3,7 +3,6 @@
 use native.Mathlib.Omega.{arith}
 use mathlib.Core.Path.{sym, ◌∙◌}
 use Rattle.version_list.proofs.Laws.{next_there}
-use borrow.Author.Rules.{rules}
 use Rattle.version_list.proofs.place_after.Goals as goal
 
 pub overflow_add-result : goal.overflow_add-result

@@ -1,8 +1,6 @@
 -- `version_list::put_row` meets its contract: the place is stored, and the numbers of the record after it.
 -- Assumes nothing.
-use lib.ListN.{length-set}
 use Rattle.version_list.proofs.Laws.{row_put}
-use borrow.Author.Rules.{rules}
 use Rattle.version_list.proofs.put_row.Goals as goal
 
 pub returns : goal.returns

@@ -1,9 +1,7 @@
 -- `version_record::aux_inside` meets its contract: the auxiliary offset is the sixth field of a definition and the fourth of a need.
 -- Assumes nothing.
-use native.Mathlib.Omega.{arith}
 use Rattle.version_record.specs.Record.{aux_inside}
 use Rattle.version_record.proofs.Laws.{aux_of_definition, aux_of_need}
-use borrow.Author.Rules.{rules}
 use Rattle.version_record.proofs.aux_inside.Goals as goal
 
 pub returns-in-Verdef : goal.returns-in-Verdef

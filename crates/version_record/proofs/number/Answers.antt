@@ -3,7 +3,6 @@
 use native.Mathlib.Omega.{arith}
 use Rattle.cursor.proofs.Laws.{new_at, u16_took, u16_cut, u32_took, u32_cut}
 use Rattle.version_record.proofs.Laws.{four}
-use borrow.Author.Rules.{rules}
 use Rattle.version_record.proofs.number.Goals as goal
 
 pub returns-in-Value : goal.returns-in-Value

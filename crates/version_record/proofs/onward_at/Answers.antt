@@ -1,10 +1,7 @@
 -- `version_record::onward_at` meets its contract: each return is one of the ways in which what is at a place comes about.
 -- Assumes nothing.
-use native.Mathlib.Omega.{arith}
-use mathlib.Core.Logic.{inr}
-use mathlib.Core.Path.{refl, sym, ◌∙◌}
-use Rattle.version_record.proofs.Laws.{sized, whole_is, missing_is, onward_missing, onward_past, onward_last, onward_next}
-use borrow.Author.Rules.{rules}
+use mathlib.Core.Path.{sym, ◌∙◌}
+use Rattle.version_record.proofs.Laws.{whole_is, missing_is, onward_missing, onward_past, onward_last, onward_next}
 use Rattle.version_record.proofs.onward_at.Goals as goal
 
 pub returns-then-next-eq0 : goal.returns-then-next-eq0

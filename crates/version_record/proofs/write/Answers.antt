@@ -3,17 +3,15 @@
 -- the next field is at hand.
 -- Assumes nothing.
 use native.Mathlib.Omega.{arith}
-use borrow.Author.Rules.{rules}
 use mathlib.Core.Path.{◌≡◌, refl, sym, ◌∙◌}
 use Prim.Native.Nat.{◌+◌, ◌-◌, ◌≤◌, ◌<◌}
 use native.Mathlib.Numerals.{add-one}
-use lib.ListN.{length, get_or, take, length-set}
+use lib.ListN.{length, get_or, length-set}
 use borrow.Author.Tests.{leb-true, leb-false}
-use Rattle.fields.specs.Field.{put}
-use Rattle.layout.specs.Layout.{size as size', numbers_at}
+use Rattle.layout.specs.Layout.{numbers_at}
 use Rattle.layout.proofs.Theorems.{length_numbers}
 use Rattle.version_record.specs.Record.{layout}
-use Rattle.version_record.proofs.Laws.{whole_is, size_suc, size_part, number_at_lem, two_or_four, put_start, put_next, write_short, write_full, write_done}
+use Rattle.version_record.proofs.Laws.{size_suc, number_at_lem, put_start, put_next, write_short, write_full, write_done}
 use Rattle.version_record.proofs.write.Goals as goal
 
 pub loop-i-init : goal.loop-i-init

@@ -2,18 +2,12 @@
 -- is as it was, and
 -- the next field is at hand.
 -- Assumes nothing.
-use native.Mathlib.Omega.{arith}
-use borrow.Author.Rules.{rules}
-use mathlib.Core.Path.{◌≡◌, refl, sym, ◌∙◌}
-use Prim.Native.Nat.{◌+◌, ◌-◌, ◌≤◌, ◌<◌}
-use native.Mathlib.Numerals.{add-one}
-use lib.ListN.{length, get_or, take, length-set}
-use borrow.Author.Tests.{leb-true, leb-false}
+use mathlib.Core.Path.{◌≡◌}
+use Prim.Native.Nat.{◌+◌, ◌-◌, ◌≤◌}
+use lib.ListN.{length, take}
 use Rattle.fields.specs.Field.{put}
 use Rattle.layout.specs.Layout.{size as size', numbers_at}
-use Rattle.layout.proofs.Theorems.{length_numbers}
 use Rattle.version_record.specs.Record.{layout}
-use Rattle.version_record.proofs.Laws.{whole_is, size_suc, size_part, number_at_lem, two_or_four, put_start, put_next, write_short, write_full, write_done}
 use Rattle.version_record.proofs.write.Given as goal
 
 abbrev pub invariant-loop-i : goal.invariant-loop-i

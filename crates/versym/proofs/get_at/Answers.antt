@@ -1,14 +1,10 @@
 -- `versym::get_at` meets its contract: the checks are made in order, and where they pass the section is a part of the file.
 -- Assumes nothing.
-use native.Mathlib.Omega.{arith}
-use Prim.Native.Nat.{◌+◌, ◌≤◌}
 use mathlib.Core.Path.{sym, ◌∙◌}
-use lib.ListN.{length}
-use borrow.Author.Tests.{le-leb, lt-leb, leb-true}
+use borrow.Author.Tests.{le-leb, lt-leb}
 use Rattle.answer.proofs.Laws.{must_on, must_off}
 use Rattle.version_section.proofs.Laws.{part_section, section_there, section_past}
 use Rattle.versym.specs.Versym.{get_at_of}
-use borrow.Author.Rules.{rules}
 use Rattle.versym.proofs.get_at.Goals as goal
 
 pub returns-then-file-gt-FILE_LIMIT : goal.returns-then-file-gt-FILE_LIMIT

@@ -9,7 +9,6 @@ use Rattle.layout.specs.Layout.{numbers_at}
 use Rattle.layout.proofs.Laws.{missed_at, full_is}
 use Rattle.versym.specs.Versym.{entry, get_at_in_of}
 use Rattle.versym.specs.declared.ReadVersym.TheVariants.{Refused}
-use borrow.Author.Rules.{rules}
 use Rattle.versym.proofs.get_at_in.Goals as goal
 
 pub returns-in-Value : goal.returns-in-Value

@@ -4,7 +4,6 @@ use native.Mathlib.Omega.{arith}
 use Rattle.fields.proofs.Laws.{u16_found, u16_missed}
 use Rattle.cursor.proofs.Laws.{next_value, next_missed}
 use Rattle.cursor.specs.Next.{taken_u16}
-use borrow.Author.Rules.{rules}
 use Rattle.cursor.proofs.Cursor.next_u16.Goals as goal
 
 pub overflow_add-result : goal.overflow_add-result

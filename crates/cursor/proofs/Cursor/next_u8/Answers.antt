@@ -4,7 +4,6 @@ use native.Mathlib.Omega.{arith}
 use Rattle.fields.proofs.Laws.{u8_found, u8_missed}
 use Rattle.cursor.proofs.Laws.{next_value, next_missed}
 use Rattle.cursor.specs.Next.{taken_u8}
-use borrow.Author.Rules.{rules}
 use Rattle.cursor.proofs.Cursor.next_u8.Goals as goal
 
 pub overflow_add-result : goal.overflow_add-result

@@ -2,7 +2,6 @@
 -- Assumes nothing.
 use mathlib.Core.Path.{refl}
 use Rattle.fields.specs.Number.{bytes_of}
-use borrow.Author.Rules.{rules}
 use Rattle.pe_section.proofs.SectionTable.name_bytes.Goals as goal
 
 pub returns : goal.returns
