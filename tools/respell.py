@@ -12,7 +12,7 @@ import os
 import re
 import sys
 
-DECLARED = re.compile(r"\s*((?:(?:abbrev|unfoldable|pub|data|record|ruleset|mutual)\s+)*)([A-Za-z_][^\s:(){}]*(?:\s+[A-Za-z][^\s:(){}]*)*)\s+:\s")
+DECLARED = re.compile(r"\s*((?:(?:abbrev|unfoldable|pub|data|record|ruleset|mutual)\s+)*)([A-Za-z_][^\s:(){}]*(?:\s+[A-Za-z][^\s:(){}]*)*)\s+:(?:\s|$)")
 WORD = re.compile(r"[^\s(){}\[\].;,@\"«»λ`]+")
 TEXT = re.compile(r'"(?:[^"\\\n]|\\.)*"')
 SPAN = re.compile(r"`[^`\n]+`")

@@ -13,7 +13,7 @@ use Rattle.unwind_chain.specs.Chain.{count_all_codes_of}
 use Rattle.unwind_links.specs.Answers.{answer_reach_info, count_reach_info}
 use Rattle.unwind_links.specs.Links.{chained_info_of, first_info_of, record_at_of}
 
-pub hullsift-first-info-unique :
+pub hullsift_first_info_unique :
     (file : List ℕ) (sections : List ℕ) (begin : ℕ) (end : ℕ) (unwind : ℕ) {r q : ℕ} {l k : List ℕ}
     → (r ≡ number (answer_reach_info (first_info_of file (read_sections_of sections) (record { begin = begin; end = end; unwind = unwind })))) ×
     (l ≡ values count_reach_info
@@ -22,9 +22,9 @@ pub hullsift-first-info-unique :
     (k ≡ values count_reach_info
     (answer_reach_info (first_info_of file (read_sections_of sections) (record { begin = begin; end = end; unwind = unwind }))))
     → (r ≡ q) × (l ≡ k)
-hullsift-first-info-unique file sections begin end unwind = same_both
+hullsift_first_info_unique file sections begin end unwind = same_both
 
-pub hullsift-next-info-unique :
+pub hullsift_next_info_unique :
     (file : List ℕ) (sections : List ℕ) (links : ℕ) (begin : ℕ) (end : ℕ) (unwind : ℕ) {r q : ℕ} {l k : List ℕ}
     → (r ≡ number
     (answer_reach_info (chained_info_of file (read_sections_of sections) (record { begin = begin; end = end; unwind = unwind }) links)))
@@ -35,18 +35,18 @@ pub hullsift-next-info-unique :
     × (k ≡ values count_reach_info
     (answer_reach_info (chained_info_of file (read_sections_of sections) (record { begin = begin; end = end; unwind = unwind }) links)))
     → (r ≡ q) × (l ≡ k)
-hullsift-next-info-unique file sections links begin end unwind = same_both
+hullsift_next_info_unique file sections links begin end unwind = same_both
 
-pub hullsift-record-at-unique :
+pub hullsift_record_at_unique :
     (file : List ℕ) (sections : List ℕ) (address : ℕ) {r q : ℕ} {l k : List ℕ}
     → (r ≡ number (answer_read_runtime_function (record_at_of file (read_sections_of sections) address))) ×
     (l ≡ values count_read_runtime_function (answer_read_runtime_function (record_at_of file (read_sections_of sections) address)))
     → (q ≡ number (answer_read_runtime_function (record_at_of file (read_sections_of sections) address))) ×
     (k ≡ values count_read_runtime_function (answer_read_runtime_function (record_at_of file (read_sections_of sections) address)))
     → (r ≡ q) × (l ≡ k)
-hullsift-record-at-unique file sections address = same_both
+hullsift_record_at_unique file sections address = same_both
 
-pub hullsift-count-all-codes-unique :
+pub hullsift_count_all_codes_unique :
     (file : List ℕ) (sections : List ℕ) (begin : ℕ) (end : ℕ) (unwind : ℕ) {r q : ℕ} {l k : List ℕ}
     → (r ≡ number
     (answer_count_all_codes (count_all_codes_of file (read_sections_of sections) (record { begin = begin; end = end; unwind = unwind }))))
@@ -57,4 +57,4 @@ pub hullsift-count-all-codes-unique :
     × (k ≡ values count_count_all_codes
     (answer_count_all_codes (count_all_codes_of file (read_sections_of sections) (record { begin = begin; end = end; unwind = unwind }))))
     → (r ≡ q) × (l ≡ k)
-hullsift-count-all-codes-unique file sections begin end unwind = same_both
+hullsift_count_all_codes_unique file sections begin end unwind = same_both

@@ -12,52 +12,52 @@ use Rattle.scope_table.specs.Answers.{answer_count_scopes, answer_read_scope_tab
 use Rattle.scope_table.specs.Handler.{count_at_of, entry_at_of}
 use Rattle.scope_table.specs.Scope.{count_in_of, entry_in_of, read_of, write_out}
 
-pub hullsift-count-scopes-in-unique :
+pub hullsift_count_scopes_in_unique :
     («data» : List ℕ) {r q : ℕ} {l k : List ℕ}
     → (r ≡ number (answer_count_scopes (count_in_of «data»))) × (l ≡ values count_count_scopes (answer_count_scopes (count_in_of «data»)))
     → (q ≡ number (answer_count_scopes (count_in_of «data»))) × (k ≡ values count_count_scopes (answer_count_scopes (count_in_of «data»)))
     → (r ≡ q) × (l ≡ k)
-hullsift-count-scopes-in-unique «data» = same_both
+hullsift_count_scopes_in_unique «data» = same_both
 
-pub hullsift-scope-in-unique :
+pub hullsift_scope_in_unique :
     («data» : List ℕ) (index : ℕ) {r q : ℕ} {l k : List ℕ}
     → (r ≡ number (answer_read_scope_table_entry (entry_in_of «data» index))) ×
     (l ≡ values count_read_scope_table_entry (answer_read_scope_table_entry (entry_in_of «data» index)))
     → (q ≡ number (answer_read_scope_table_entry (entry_in_of «data» index))) ×
     (k ≡ values count_read_scope_table_entry (answer_read_scope_table_entry (entry_in_of «data» index)))
     → (r ≡ q) × (l ≡ k)
-hullsift-scope-in-unique «data» index = same_both
+hullsift_scope_in_unique «data» index = same_both
 
-pub hullsift-count-scopes-at-unique :
+pub hullsift_count_scopes_at_unique :
     (file : List ℕ) (at : ℕ) {r q : ℕ} {l k : List ℕ}
     → (r ≡ number (answer_count_scopes (count_at_of file at))) × (l ≡ values count_count_scopes (answer_count_scopes (count_at_of file at)))
     → (q ≡ number (answer_count_scopes (count_at_of file at))) × (k ≡ values count_count_scopes (answer_count_scopes (count_at_of file at)))
     → (r ≡ q) × (l ≡ k)
-hullsift-count-scopes-at-unique file at = same_both
+hullsift_count_scopes_at_unique file at = same_both
 
-pub hullsift-scope-at-unique :
+pub hullsift_scope_at_unique :
     (file : List ℕ) (at : ℕ) (index : ℕ) {r q : ℕ} {l k : List ℕ}
     → (r ≡ number (answer_read_scope_table_entry (entry_at_of file at index))) ×
     (l ≡ values count_read_scope_table_entry (answer_read_scope_table_entry (entry_at_of file at index)))
     → (q ≡ number (answer_read_scope_table_entry (entry_at_of file at index))) ×
     (k ≡ values count_read_scope_table_entry (answer_read_scope_table_entry (entry_at_of file at index)))
     → (r ≡ q) × (l ≡ k)
-hullsift-scope-at-unique file at index = same_both
+hullsift_scope_at_unique file at index = same_both
 
-pub hullsift-read-scope-unique :
+pub hullsift_read_scope_unique :
     (bytes : List ℕ) (at : ℕ) {r q : ℕ} {l k : List ℕ}
     → (r ≡ number (answer_read_scope_table_entry (read_of bytes at))) ×
     (l ≡ values count_read_scope_table_entry (answer_read_scope_table_entry (read_of bytes at)))
     → (q ≡ number (answer_read_scope_table_entry (read_of bytes at))) ×
     (k ≡ values count_read_scope_table_entry (answer_read_scope_table_entry (read_of bytes at)))
     → (r ≡ q) × (l ≡ k)
-hullsift-read-scope-unique bytes at = same_both
+hullsift_read_scope_unique bytes at = same_both
 
-pub hullsift-write-scope-unique :
+pub hullsift_write_scope_unique :
     (bytes : List ℕ) (at : ℕ) (begin : ℕ) (end : ℕ) (handler : ℕ) (target : ℕ) {r q : ℕ} {l k : List ℕ}
     → (r ≡ number (answer_write_bytes (write_of 16 bytes at))) ×
     (l ≡ write_out bytes at (record { begin = begin; end = end; handler = handler; target = target }))
     → (q ≡ number (answer_write_bytes (write_of 16 bytes at))) ×
     (k ≡ write_out bytes at (record { begin = begin; end = end; handler = handler; target = target }))
     → (r ≡ q) × (l ≡ k)
-hullsift-write-scope-unique bytes at begin end handler target = same_both
+hullsift_write_scope_unique bytes at begin end handler target = same_both

@@ -13,32 +13,32 @@ use Rattle.versym.specs.Answers.{answer_read_versym, count_read_versym}
 use Rattle.versym.specs.Versym.{count_of, get_at_of}
 
 -- of an answer, its values and a lent list
-same-three :
+same_three :
     {A B C : Type 0} {d r q : A} {m l k : B} {n v u : C}
     → (r ≡ d) × (l ≡ m) × (v ≡ n)
     → (q ≡ d) × (k ≡ m) × (u ≡ n)
     → (r ≡ q) × (l ≡ k) × (v ≡ u)
-same-three e f = (same e.0 f.0, same e.1 f.1, same e.2 f.2)
+same_three e f = (same e.0 f.0, same e.1 f.1, same e.2 f.2)
 
-pub hullsift-count-versym-unique :
+pub hullsift_count_versym_unique :
     (file : List ℕ) (start : ℕ) (size : ℕ) {r q : ℕ} {l k : List ℕ}
     → (r ≡ number (answer_count_entries (count_of file start size))) ×
     (l ≡ values count_count_entries (answer_count_entries (count_of file start size)))
     → (q ≡ number (answer_count_entries (count_of file start size))) ×
     (k ≡ values count_count_entries (answer_count_entries (count_of file start size)))
     → (r ≡ q) × (l ≡ k)
-hullsift-count-versym-unique file start size = same_both
+hullsift_count_versym_unique file start size = same_both
 
-pub hullsift-versym-unique :
+pub hullsift_versym_unique :
     (file : List ℕ) (start : ℕ) (size : ℕ) (index : ℕ) (big : Bool) {r q : ℕ} {l k : List ℕ}
     → (r ≡ number (answer_read_versym (get_at_of big file start size index))) ×
     (l ≡ values count_read_versym (answer_read_versym (get_at_of big file start size index)))
     → (q ≡ number (answer_read_versym (get_at_of big file start size index))) ×
     (k ≡ values count_read_versym (answer_read_versym (get_at_of big file start size index)))
     → (r ≡ q) × (l ≡ k)
-hullsift-versym-unique file start size index big = same_both
+hullsift_versym_unique file start size index big = same_both
 
-pub hullsift-verdefs-unique :
+pub hullsift_verdefs_unique :
     (file : List ℕ) (start : ℕ) (size : ℕ) (stated : ℕ) (big : Bool) (list : List ℕ) {r q : ℕ} {l k : List ℕ} {v u : List ℕ}
     → (r ≡ number (answer_count_entries (definitions_of big file start size stated list))) ×
     (v ≡ values count_count_entries (answer_count_entries (definitions_of big file start size stated list))) ×
@@ -47,9 +47,9 @@ pub hullsift-verdefs-unique :
     (u ≡ values count_count_entries (answer_count_entries (definitions_of big file start size stated list))) ×
     (k ≡ definitions_out big file start size stated list)
     → (r ≡ q) × (v ≡ u) × (l ≡ k)
-hullsift-verdefs-unique file start size stated big list = same-three
+hullsift_verdefs_unique file start size stated big list = same_three
 
-pub hullsift-verneeds-unique :
+pub hullsift_verneeds_unique :
     (file : List ℕ) (start : ℕ) (size : ℕ) (stated : ℕ) (big : Bool) (list : List ℕ) {r q : ℕ} {l k : List ℕ} {v u : List ℕ}
     → (r ≡ number (answer_count_entries (needs_of big file start size stated list))) ×
     (v ≡ values count_count_entries (answer_count_entries (needs_of big file start size stated list))) ×
@@ -58,9 +58,9 @@ pub hullsift-verneeds-unique :
     (u ≡ values count_count_entries (answer_count_entries (needs_of big file start size stated list))) ×
     (k ≡ needs_out big file start size stated list)
     → (r ≡ q) × (v ≡ u) × (l ≡ k)
-hullsift-verneeds-unique file start size stated big list = same-three
+hullsift_verneeds_unique file start size stated big list = same_three
 
-pub hullsift-verdauxs-unique :
+pub hullsift_verdauxs_unique :
     (file : List ℕ) (start : ℕ) (size : ℕ) (place : ℕ) (aux : ℕ) (cnt : ℕ) (big : Bool) (list : List ℕ) {r q : ℕ} {l k : List ℕ}
     {v u : List ℕ}
     → (r ≡ number (answer_count_entries (definition_auxiliaries_of big file start size place aux cnt list))) ×
@@ -70,9 +70,9 @@ pub hullsift-verdauxs-unique :
     (u ≡ values count_count_entries (answer_count_entries (definition_auxiliaries_of big file start size place aux cnt list))) ×
     (k ≡ definition_auxiliaries_out big file start size place aux cnt list)
     → (r ≡ q) × (v ≡ u) × (l ≡ k)
-hullsift-verdauxs-unique file start size place aux cnt big list = same-three
+hullsift_verdauxs_unique file start size place aux cnt big list = same_three
 
-pub hullsift-vernauxs-unique :
+pub hullsift_vernauxs_unique :
     (file : List ℕ) (start : ℕ) (size : ℕ) (place : ℕ) (aux : ℕ) (cnt : ℕ) (big : Bool) (list : List ℕ) {r q : ℕ} {l k : List ℕ}
     {v u : List ℕ}
     → (r ≡ number (answer_count_entries (need_auxiliaries_of big file start size place aux cnt list))) ×
@@ -82,4 +82,4 @@ pub hullsift-vernauxs-unique :
     (u ≡ values count_count_entries (answer_count_entries (need_auxiliaries_of big file start size place aux cnt list))) ×
     (k ≡ need_auxiliaries_out big file start size place aux cnt list)
     → (r ≡ q) × (v ≡ u) × (l ≡ k)
-hullsift-vernauxs-unique file start size place aux cnt big list = same-three
+hullsift_vernauxs_unique file start size place aux cnt big list = same_three

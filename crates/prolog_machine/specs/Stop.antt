@@ -246,12 +246,12 @@ pub data Stop (entry : Entry) (a : Arrays) (d : Distance) (m n : Machine) : Type
 -- A stop as it is in real code, where registers change too that no code pushes or saves: after the prolog and any body; or inside the prolog,
 -- whose other instructions leave what a body leaves, and RSP as the codes left it.
 pub data FreeStop (entry : Entry) (a : Arrays) (d : Distance) (m n : Machine) : Type 0 where
-  freeInside :
+  free_inside :
       Sized n.registers
       → rsp_of n ≡ rsp_of (run entry (ran_of d a) m)
       → FreeBody entry (ran_of d a) a.found.frame m (run entry (ran_of d a) m) n
       → FreeStop entry a d m n
-  freeAfter :
+  free_after :
       PastProlog d a.found.prolog
       → Sized n.registers
       → FreeBody entry (joined_of a) a.found.frame m (run entry (joined_of a) m) n

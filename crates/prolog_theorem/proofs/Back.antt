@@ -253,13 +253,13 @@ module _ (base : Base) (w : Window) (entry : Entry) (f : Frame) (mf : Bool) (m :
       word_is w (rsp s) v _ (omega arith) (ap (word_at w) q' ∙ hold.0)
       ∙ within_is (rsp (with_gpr s r v) + 8) (λ a. on (with_rsp (with_gpr s r v) a)) (omega arith) in
       let h = rest t (record { general = lt; xmm = z.xmm }) qt in
-      let no-frame = unframed f.register mf cs g.3 (omega (arith, g.0)) in
+      let no_frame = unframed f.register mf cs g.3 (omega (arith, g.0)) in
       undone_first (push r) cs s t undone h
       (mend (λ x. x ≢ 4) r (owed cs) m.registers.gpr s.gpr t.gpr h.state.gpr h.general
       (λ n.
       get_or-set_other (set s.gpr r v) 4 r _ 0 g.1
       ∙ get_or-set_same s.gpr r v 0 (omega (arith, g.2))
-      ∙ register_is entry f m cs r g.1 (λ b. let y : true ≡ false = sym b ∙ no-frame in let k : ◌≡◌ {A = ℕ} 0 1 = cc in absurd (omega arith)))
+      ∙ register_is entry f m cs r g.1 (λ b. let y : true ≡ false = sym b ∙ no_frame in let k : ◌≡◌ {A = ℕ} 0 1 = cc in absurd (omega arith)))
       (λ x x4 xr. get_or-set_other (set s.gpr r v) 4 x _ 0 x4 ∙ get_or-set_other s.gpr r x v 0 xr))
       h.xmm
 

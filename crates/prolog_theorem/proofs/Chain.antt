@@ -23,7 +23,7 @@ use Rattle.strict_prolog.specs.Strict.{every, some, operations, offsets_of, neve
 use Rattle.strict_prolog.specs.Strict as check
 use Rattle.prolog_machine.specs.Machine.{Memory, Machine, rsp_of, Entry, called, interrupted, run, caller_of}
 use Rattle.prolog_machine.specs.Stop.{Every, In, NotIn, Sized, Small, ran_of, PastProlog, needed, written, entry_words, Fits, Entered, general_kept, xmm_kept}
-use Rattle.prolog_machine.specs.Stop.{SameWord, SameXmm, FreeBody, Body, Same, Stop, inside, after, FreeStop, freeInside, freeAfter, Holds}
+use Rattle.prolog_machine.specs.Stop.{SameWord, SameXmm, FreeBody, Body, Same, Stop, inside, after, FreeStop, free_inside, free_after, Holds}
 use Rattle.prolog_theorem.specs.Recovered.{Recovered}
 use Rattle.prolog_theorem.proofs.Acts.{Act, acts, framed, owed, owed_xmm, Good}
 use Rattle.prolog_theorem.proofs.Runs.{size_is, xmm_is, register_is, framed_owed, no_four}
@@ -490,8 +490,8 @@ recovers a d entry m n w e small zm en stop fit hold =
     )
   where
     stopped : Chain a d → FreeStop entry a d m n → Stopped entry a.found.frame (acts_of (ran_of d a)) m n
-    stopped c (freeInside zn stack body) = stopped_near entry a d m n c en zn stack body
-    stopped c (freeAfter past zn body) = stopped_after entry a d m n c en past zn body
+    stopped c (free_inside zn stack body) = stopped_near entry a d m n c en zn stack body
+    stopped c (free_after past zn body) = stopped_after entry a d m n c en past zn body
 
     lm : length m.registers.gpr ≡ 16
     lm = zm.general

@@ -1,7 +1,7 @@
 -- Which conditions of a strict prolog the theorem needs: for each a chain that meets all others, and a stop where the step's answer is not the
--- caller, though all else is as `unwinding-from-a-spanning-window` asks.
+-- caller, though all else is as `unwinding_from_a_spanning_window` asks.
 --
--- Two are not among them: the theorem holds without them (`ten-conditions-are-enough`). 4, epilogs first: they do nothing. 7, the frame register
+-- Two are not among them: the theorem holds without them (`ten_conditions_are_enough`). 4, epilogs first: they do nothing. 7, the frame register
 -- is not RSP: it was pushed (9), and RSP never is (10). Of some others there is a part that no stop tells from its absence. Of 1, at most one set
 -- frame: a second one sets the same. Of 5, nothing without effect: it does nothing. Of 10, RSP is never saved: the saved word is RSP as it is. Of
 -- 11, XMM registers at multiples of 16: multiples of 8 would do.
@@ -43,7 +43,7 @@ pub record Breaks (k : ℕ) (a : Arrays) (d : Distance) (entry : Entry) (m n : M
   pub wrong : unwind_of base_when_undone w (undone_of d (joined_of a)) n.registers ≢ caller (caller_of entry m)
 
 -- The theorem from ten of the thirteen conditions: 4 and 7 are not asked for, and 11 only where a window spans the words.
-pub ten-conditions-are-enough :
+pub ten_conditions_are_enough :
     (a : Arrays) (d : Distance) (entry : Entry) (m n : Machine) (w : Window)
     → Enough a
     → Small (joined_of a)
@@ -53,7 +53,7 @@ pub ten-conditions-are-enough :
     → Fits entry (ran_of d a) m
     → Holds w n.memory (needed entry (ran_of d a) m)
     → unwind_of base_when_undone w (undone_of d (joined_of a)) n.registers ≡ caller (caller_of entry m)
-ten-conditions-are-enough = undoes_enough
+ten_conditions_are_enough = undoes_enough
 
 -- ---- windows and answers
 

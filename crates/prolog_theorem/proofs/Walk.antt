@@ -11,7 +11,7 @@ use Rattle.unwind_undo.specs.Distance.{Distance, undone_of}
 use Rattle.strict_prolog.specs.Strict.{strict}
 use Rattle.prolog_machine.specs.Machine.{Memory, Machine, Entry, caller_of}
 use Rattle.prolog_machine.specs.Stop.{Every, Small, ran_of, needed, written, entry_words, Reaches, Holds}
-use Rattle.prolog_theorem.proofs.Theorem.{unwinding-undoes-the-prolog, a-later-memory-serves}
+use Rattle.prolog_theorem.proofs.Theorem.{unwinding_undoes_the_prolog, a_later_memory_serves}
 
 -- a function that was entered at `start` and stands at `now`, by its codes and the distance of its address
 pub record Standing : Type 0 where
@@ -61,18 +61,18 @@ walk w f (g ∷ fs) s = go_on (step w f s) (walk w g fs)
 
 one_step : (w : Window) (later : Memory) (f : Standing) → Stands w later f → step w f f.now.registers ≡ caller (caller_in f)
 one_step w later f h =
-    unwinding-undoes-the-prolog f.arrays f.distance f.entry f.start f.now w h.is_strict h.small h.reaches.sized
+    unwinding_undoes_the_prolog f.arrays f.distance f.entry f.start f.now w h.is_strict h.small h.reaches.sized
     h.reaches.entered h.reaches.stop h.reaches.fits
-    (a-later-memory-serves f.arrays f.distance f.entry f.start f.now later w h.is_strict h.small h.reaches.entered
+    (a_later_memory_serves f.arrays f.distance f.entry f.start f.now later w h.is_strict h.small h.reaches.entered
     h.wrote h.own h.holds)
 
 -- Steps along a stack of frames, with the memory as it is at the newest, come to the caller of the oldest.
-pub a-walk-comes-to-the-oldest-caller :
+pub a_walk_comes_to_the_oldest_caller :
     (w : Window) (later : Memory) (f : Standing) (fs : List Standing)
     → Stack w later f fs
     → walk w f fs f.now.registers ≡ caller (oldest f fs)
-a-walk-comes-to-the-oldest-caller w later f [] h = one_step w later f h
-a-walk-comes-to-the-oldest-caller w later f (g ∷ fs) h =
+a_walk_comes_to_the_oldest_caller w later f [] h = one_step w later f h
+a_walk_comes_to_the_oldest_caller w later f (g ∷ fs) h =
     ap (λ u. go_on u (walk w g fs)) (one_step w later f h.0)
     ∙ ap (walk w g fs) h.1
-    ∙ a-walk-comes-to-the-oldest-caller w later g fs h.2
+    ∙ a_walk_comes_to_the_oldest_caller w later g fs h.2

@@ -50,14 +50,14 @@ not_in_both x [] ys n = (tt, n)
 not_in_both x (y ∷ xs) ys n = let h = not_in_both x xs ys n.1 in ((n.0, h.0), h.1)
 
 -- A word that a prolog does not write stays, whatever its codes are, as long as no address leaves 64 bits.
-pub unwritten-words-stay :
+pub unwritten_words_stay :
     (entry : Entry) (cs : List ChainCode) (m : Machine) (x : ℕ)
     → length m.registers.gpr ≡ 16
     → Fits entry cs m
     → NotIn x (written entry cs m)
     → (run entry cs m).memory x ≡ m.memory x
-unwritten-words-stay entry [] m x l fit n = refl
-unwritten-words-stay entry (c ∷ cs) m x l fit n =
+unwritten_words_stay entry [] m x l fit n = refl
+unwritten_words_stay entry (c ∷ cs) m x l fit n =
     let h = not_in_both x (written_by entry c.code.operation (run entry cs m)) (written entry cs m) n in
     one_stays entry c.frame c.code.operation (run entry cs m) x (run_size entry cs m ∙ l) fit.0 h.0
-    ∙ unwritten-words-stay entry cs m x l fit.1 h.1
+    ∙ unwritten_words_stay entry cs m x l fit.1 h.1

@@ -26,7 +26,7 @@ use Rattle.prolog_machine.specs.Machine.{Machine, Entry, caller_of}
 use Rattle.prolog_machine.specs.Stop.{Small, Sized, Entered, FreeStop, Reaches, Fits, ran_of, needed, Holds}
 use Rattle.prolog_theorem.specs.Recovered.{Recovered}
 use Rattle.prolog_theorem.proofs.Decoded.{AllInRange, EachInRange, in_range_codes_are_small}
-use Rattle.prolog_theorem.proofs.Theorem.{unwinding-undoes-the-prolog, unwinding-recovers-what-was-kept}
+use Rattle.prolog_theorem.proofs.Theorem.{unwinding_undoes_the_prolog, unwinding_recovers_what_was_kept}
 
 -- ---- the codes of a chain that was read are small
 
@@ -37,8 +37,8 @@ same_range (c ∷ cs) h = (h.0, same_range cs h.1)
 each_in_range : {s : List ℕ} {sections : Sections} {r : RuntimeFunction} {n : ℕ} (l : Link) (ls : List Link) → Chains s sections r n l ls
     → AllInRange l.codes × EachInRange (arrays_of_links ls)
 each_in_range {s} l [] (last_info p h) = (same_range l.codes (whole_registers s l.place.offset l.info l.codes p.whole), tt)
-each_in_range {s} l (m ∷ ms) (more_infos p f h) =
-    (same_range l.codes (whole_registers s l.place.offset l.info l.codes p.whole), each_in_range m ms h)
+each_in_range {s} {sections} {r} {n} l (m ∷ ms) (more_infos {e = e} p f h) =
+    (same_range l.codes (whole_registers s l.place.offset l.info l.codes p.whole), each_in_range {r = e} {n = _} m ms h)
 
 chain_small : (s : List ℕ) (sections : Sections) (r : RuntimeFunction) (c : Chain) → chain c ≡ chain_of s sections r
     → Small (joined_of (arrays_of c))
@@ -55,7 +55,7 @@ distance_at address c = distance_of address c.found.place.begin
 -- For any file, opened data and address: where the lookup finds a record whose chain is read and is strict, and a function with that prolog
 -- was entered at `m` and is stopped at `n`, inside its prolog or after it and a body, the step gives the caller: its RIP and RSP, and every
 -- register as it was at entry. The window holds the words that the prolog wrote for it, and no address left 64 bits on the way.
-pub the-step-undoes-the-prolog :
+pub the_step_undoes_the_prolog :
     (file : List ℕ) (opened : ExceptionData) (address : ℕ) (h : Holder) (c : Chain) (entry : Entry) (m n : Machine) (words : List ℕ) (base : ℕ)
     → find_function_of file opened address ≡ sought.Value h
     → chain_of file opened.sections h.function ≡ chain c
@@ -63,15 +63,15 @@ pub the-step-undoes-the-prolog :
     → Reaches entry (arrays_of c) (distance_at address c) m n
     → Holds (record { base = base; words = words }) n.memory (needed entry (ran_of (distance_at address c) (arrays_of c)) m)
     → step_of file opened address n.registers words base ≡ done_step (caller_of entry m)
-the-step-undoes-the-prolog file opened address h c entry m n words base found read e r holds =
+the_step_undoes_the_prolog file opened address h c entry m n words base found read e r holds =
     step_there file opened address n.registers words base h c found read
     ∙ ap (step_by n.registers)
-    (unwinding-undoes-the-prolog (arrays_of c) (distance_at address c) entry m n (record { base = base; words = words }) e
+    (unwinding_undoes_the_prolog (arrays_of c) (distance_at address c) entry m n (record { base = base; words = words }) e
     (chain_small file opened.sections h.function c (sym read)) r.sized r.entered r.stop r.fits holds)
 
 -- As in real code, where the body also changes registers that no code pushes or saves: the step accepts, RIP, RSP and every register that a code
 -- pushed or saved are the caller's, and the others are as at the stop.
-pub the-step-recovers-what-was-kept :
+pub the_step_recovers_what_was_kept :
     (file : List ℕ) (opened : ExceptionData) (address : ℕ) (h : Holder) (c : Chain) (entry : Entry) (m n : Machine) (words : List ℕ) (base : ℕ)
     → find_function_of file opened address ≡ sought.Value h
     → chain_of file opened.sections h.function ≡ chain c
@@ -83,7 +83,7 @@ pub the-step-recovers-what-was-kept :
     → Holds (record { base = base; words = words }) n.memory (needed entry (ran_of (distance_at address c) (arrays_of c)) m)
     → (t : State) × (step_of file opened address n.registers words base ≡ done_step t)
     × Recovered entry (ran_of (distance_at address c) (arrays_of c)) m n t
-the-step-recovers-what-was-kept file opened address h c entry m n words base found read e sized entered stop fits holds =
-    let k = unwinding-recovers-what-was-kept (arrays_of c) (distance_at address c) entry m n (record { base = base; words = words }) e
+the_step_recovers_what_was_kept file opened address h c entry m n words base found read e sized entered stop fits holds =
+    let k = unwinding_recovers_what_was_kept (arrays_of c) (distance_at address c) entry m n (record { base = base; words = words }) e
     (chain_small file opened.sections h.function c (sym read)) sized entered stop fits holds in
     (k.0, step_there file opened address n.registers words base h c found read ∙ ap (step_by n.registers) k.1, k.2)

@@ -27,7 +27,7 @@ use Rattle.unwind_links.specs.declared.ReachedInfo.{ReachedInfo}
 use Rattle.unwind_links.specs.declared.ReachInfo.TheVariants as reach
 use Rattle.unwind_links.specs.declared.NextInfo.TheVariants as next
 use Rattle.unwind_links.proofs.Laws.{place_there, located_told, located_odd, next_nothing, next_handler, next_info}
-use Rattle.unwind_links.proofs.Theorems.{at_once as no-odds, thirty_two_pass as places-pass, thirty_three_refused as place-refused}
+use Rattle.unwind_links.proofs.Theorems.{at_once as no_odds, thirty_two_pass as places_pass, thirty_three_refused as place_refused}
 use Rattle.unwind_array.specs.Arrays.{Frame, CodeArray, ChainCode, codes_from, codes_in, outer_codes, joined_of}
 use Rattle.unwind_chain.specs.Chain.{Link, link_at, Chain, ReadChain, chain, refused_chain, on_chain, single, before, chain_from, info_limit, chain_of, array_of, arrays_of_links, arrays_of, last_links, codes_of_all, count_all_codes_of}
 use Rattle.unwind_chain.specs.Cursor.{start_chain_of, next_chain_code_of}
@@ -139,7 +139,7 @@ module _ (s : List ℕ) (sections : Sections) (b : length s ≤ file_limit) wher
       let z : n + 0 ≡ n = omega arith in
       let p : locate.Value (named r o i cs n).place ≡ place_of s sections r n = place_there s sections r n d.place refl in
       let q : place_of s sections r (n + 0) ≡ locate_info_of s sections r n =
-      places-pass s sections n 0 r r b (omega arith) no-odds d.even in
+      places_pass s sections n 0 r r b (omega arith) no_odds d.even in
       record { place = p ∙ ap (place_of s sections r) (sym z) ∙ q; whole = d.whole }
 
   odd_link : (n : ℕ) → n < 32 → (r m : RuntimeFunction) → r.unwind % 2 ≡ 1 → function.Value m ≡ record_at_of s sections (r.unwind - 1)
@@ -196,7 +196,7 @@ module _ (s : List ℕ) (sections : Sections) (b : length s ≤ file_limit) wher
   thirty_third_odd r e c x =
       refused_far 32 0 (omega arith) c
       (ap (chain_by (λ y k. chain_at s sections y k))
-      (link_unlocated s sections e 32 (place-refused s sections 32 0 e e b refl no-odds x) refl)
+      (link_unlocated s sections e 32 (place_refused s sections 32 0 e e b refl no_odds x) refl)
       ∙ sym (chain_at_lem s sections e 32))
 
   -- .. and one whose info is chained.
