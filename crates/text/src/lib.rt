@@ -1,94 +1,108 @@
 // Text for standard output, gathered in an array of the caller's. Each function takes the place where the text ends and answers
-// where it ends then; a full array is written out. No function has a requires.
+// where it ends then; a full array is written out, and a write that fails is the answer. No function has a requires.
 #![tactic(auto)]
 
+use std::io;
 
-pub fn put_byte(out: &mut [u8; 65536], at: usize, b: u8) -> usize {
+pub fn put_byte(rt: &impl Print, out: &mut [u8; 65536], at: usize, b: u8) -> io::Result<usize> {
     if at < 65536 {
         out[at] = b;
-        at + 1
+        Ok(at + 1)
     } else {
-        io::write_all(1, out);
+        rt.write_all(out)?;
         out[0] = b;
-        1
+        Ok(1)
     }
 }
 
-pub fn put(out: &mut [u8; 65536], at: usize, s: &[u8]) -> usize {
+pub fn put(rt: &impl Print, out: &mut [u8; 65536], at: usize, s: &[u8]) -> io::Result<usize> {
     let mut end = at;
-    let mut i = 0;
-    while i < s.len() {
-        end = put_byte(out, end, s[i]);
-        i += 1;
+    for b in s {
+        end = put_byte(rt, out, end, *b)?;
     }
-    end
+    Ok(end)
 }
 
 // The same without the spaces at its end.
-pub fn put_trimmed(out: &mut [u8; 65536], at: usize, s: &[u8]) -> usize {
-    let mut n = s.len();
-    while n > 0 {
-        if s[n - 1] != b' ' {
-            return put(out, at, &s[0..n]);
+pub fn put_trimmed(
+    rt: &impl Print,
+    out: &mut [u8; 65536],
+    at: usize,
+    s: &[u8],
+) -> io::Result<usize> {
+    for last in (0..s.len()).rev() {
+        if s[last] != b' ' {
+            return put(rt, out, at, &s[..last + 1]);
         }
-        n -= 1;
     }
-    at
+    Ok(at)
 }
 
-pub fn put_decimal(out: &mut [u8; 65536], at: usize, n: u64) -> usize {
+pub fn put_decimal(rt: &impl Print, out: &mut [u8; 65536], at: usize, n: u64) -> io::Result<usize> {
     let mut text = [0u8; 20];
-    let k = io::decimal(n, &mut text);
-    put(out, at, &text[..k])
+    let mut rest = n;
+    for first in (0..20).rev() {
+        text[first] = digit(rest % 10);
+        rest /= 10;
+        if rest == 0 {
+            return put(rt, out, at, &text[first..]);
+        }
+    }
+    put(rt, out, at, &text)
 }
 
-pub fn put_hex(out: &mut [u8; 65536], at: usize, n: u64, width: usize) -> usize {
+// In lower case, with zeros in front up to width digits, and never more than 16.
+pub fn put_hex(
+    rt: &impl Print,
+    out: &mut [u8; 65536],
+    at: usize,
+    n: u64,
+    width: usize,
+) -> io::Result<usize> {
     let mut text = [0u8; 16];
-    let k = io::hex(n, width, &mut text);
-    put(out, at, &text[..k])
+    let mut rest = n;
+    for first in (0..16).rev() {
+        text[first] = digit(rest % 16);
+        rest /= 16;
+        if rest == 0 && 16 - first >= width {
+            return put(rt, out, at, &text[first..]);
+        }
+    }
+    put(rt, out, at, &text)
 }
 
 // Two digits for each byte.
-pub fn put_bytes(out: &mut [u8; 65536], at: usize, s: &[u8]) -> usize {
+pub fn put_bytes(rt: &impl Print, out: &mut [u8; 65536], at: usize, s: &[u8]) -> io::Result<usize> {
     let mut end = at;
-    let mut i = 0;
-    while i < s.len() {
-        end = put_hex(out, end, wide(s[i]), 2);
-        i += 1;
+    for b in s {
+        end = put_hex(rt, out, end, wide(*b), 2)?;
     }
-    end
+    Ok(end)
 }
 
 fn wide(b: u8) -> u64 {
-    b as u64
+    u64::from(b)
 }
 
-pub fn flush(out: &[u8; 65536], at: usize) {
-    write_part(out, at);
+// The digit of d % 16.
+fn digit(d: u64) -> u8 {
+    let digits = *b"0123456789abcdef";
+    digits[(d % 16) as usize]
 }
 
-fn write_part(s: &[u8], n: usize) {
+pub fn flush(rt: &impl Print, out: &[u8; 65536], at: usize) -> io::Result<()> {
+    write_part(rt, out, at)
+}
+
+fn write_part(rt: &impl Print, s: &[u8], n: usize) -> io::Result<()> {
     if n <= s.len() {
-        io::write_all(1, &s[0..n]);
+        rt.write_all(&s[..n])
     } else {
-        io::write_all(1, s);
+        rt.write_all(s)
     }
 }
 
 // Whether a and b hold the same bytes.
 pub fn same(a: &[u8], b: &[u8]) -> bool {
-    if a.len() != b.len() {
-        return false;
-    }
-    let mut i: usize = 0;
-    while i < a.len() {
-        if i >= b.len() {
-            return false;
-        }
-        if a[i] != b[i] {
-            return false;
-        }
-        i += 1;
-    }
-    true
+    a == b
 }
