@@ -104,8 +104,8 @@ cut_by false end = beyond_of
 unfoldable pub cut_of : ℕ → Refusal
 cut_of end = cut_by (ltb end (2 ^ 64)) end
 
--- What an answer stands for. For each enum `E` of answers, `answerE` in the specs of its crate says it of every case: the values of an
--- accepting case in the order of its fields; the values beside an answer 1 that is no refusal; or the refusal. `countE` says how many
+-- What an answer stands for. For each enum `E` of answers, `answer_e` in the specs of its crate says it of every case: the values of an
+-- accepting case in the order of its fields; the values beside an answer 1 that is no refusal; or the refusal. `count_e` says how many
 -- values there are.
 pub data Answer : Type 0 where
   accepted : List ℕ → Answer

@@ -2,9 +2,8 @@
 -- Assumes nothing.
 use mathlib.Core.Path.{◌≡◌}
 use mathlib.Core.List.{List}
-use mathlib.Core.Bool.{Bool}
 use Prim.Native.Nat.{ℕ}
-use Rattle.answer.proofs.Unique.{same, same_both}
+use Rattle.answer.proofs.Unique.{same_both}
 use Rattle.answer.specs.Answer.{number, values}
 use Rattle.c_sections.specs.Sections.{read_sections_of}
 use Rattle.runtime_function.specs.Answers.{answer_read_runtime_function, count_read_runtime_function}

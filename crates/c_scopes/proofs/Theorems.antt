@@ -2,9 +2,8 @@
 -- Assumes nothing.
 use mathlib.Core.Path.{◌≡◌}
 use mathlib.Core.List.{List}
-use mathlib.Core.Bool.{Bool}
 use Prim.Native.Nat.{ℕ}
-use Rattle.answer.proofs.Unique.{same, same_both}
+use Rattle.answer.proofs.Unique.{same_both}
 use Rattle.answer.specs.Answer.{number, values}
 use Rattle.fields.specs.Answers.{answer_write_bytes}
 use Rattle.fields.specs.Field.{write_of}

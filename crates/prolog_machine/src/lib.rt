@@ -1,3 +1,2 @@
 // What a prolog does when it runs: definitions (specs/).
 #![tactic(auto)]
-

@@ -1,3 +1,2 @@
 // Unwinding undoes the prolog: the theorem (proofs/Theorem.antt).
 #![tactic(auto)]
-

@@ -1,3 +1,2 @@
 // The strict check of a chain of codes: definitions (specs/).
 #![tactic(auto)]
-

@@ -14,7 +14,6 @@ use Rattle.unwind_state.specs.Code.{word_in, word_at_of}
 use Rattle.unwind_state.specs.declared.State.{State}
 use Rattle.unwind_state.specs.declared.StackWord.{StackWord}
 use Rattle.unwind_state.specs.declared.StackWord.TheVariants.{Held, Outside}
-use Rattle.unwind_operation.specs.declared.UnwindOperation.{UnwindOperation}
 use Rattle.unwind_undo.specs.Undo.{Undone, on, caller, lost, within, less, on_word, word, base_when_undone, last_step}
 use Rattle.unwind_undo.specs.Code.{undo_in, window_of, frame_at, sum_of, less_of, word_of, base_of, on_place, saved_of, push_of, alloc_of, set_frame_of, save_of, save_low_of, save_xmm_of, frame_above, last_step_of}
 use Rattle.unwind_undo.specs.declared.UndoOutcome.TheVariants.{On, Caller, Lost}

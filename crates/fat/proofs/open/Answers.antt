@@ -17,12 +17,11 @@ returns-in-Refused-read c =
     (sym (c.loop-left.invariant.1 ∙ members_stop fat_arch _ _ _ _ c.loop-left-test.true (sym c.in-Refused-read.is ∙ c.read.ensures)))
 
 pub loop-left-preserved : goal.loop-left-preserved
-loop-left-preserved c =
-    (
-      omega arith,
-      c.loop-left.invariant.1 ∙ members_on fat_arch _ _ _ _ c.loop-left-test.true
-          (sym c.in-Value-read.is ∙ c.read.ensures),
-    )
+loop-left-preserved c = (
+  omega arith,
+  c.loop-left.invariant.1 ∙ members_on fat_arch _ _ _ _ c.loop-left-test.true
+      (sym c.in-Value-read.is ∙ c.read.ensures),
+)
 
 pub returns : goal.returns
 returns c =

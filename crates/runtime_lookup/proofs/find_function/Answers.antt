@@ -17,12 +17,11 @@ returns-in-Value c =
     )
 
 pub returns-in-Refused : goal.returns-in-Refused
-returns-in-Refused c =
-    (
-      lookup_at _ _ _ c.if-file-gt-FILE_LIMIT.false c.search_table-halved.ensures c.sought_at.ensures c.in-Stopped.is
-          c.in-Refused.is,
-      tt,
-    )
+returns-in-Refused c = (
+  lookup_at _ _ _ c.if-file-gt-FILE_LIMIT.false c.search_table-halved.ensures c.sought_at.ensures c.in-Stopped.is
+      c.in-Refused.is,
+  tt,
+)
 
 pub returns-in-Nothing : goal.returns-in-Nothing
 returns-in-Nothing c = (lookup_none _ _ _ c.if-file-gt-FILE_LIMIT.false c.search_table-halved.ensures c.in-Nothing.is c.refuse-in-Nothing.ensures, tt)

@@ -10,12 +10,11 @@ pub returns-then-more-eq0 : goal.returns-then-more-eq0
 returns-then-more-eq0 c = locate_none _ _ _ _ c.loop-here-test.true c.if-more-eq0.true c.refuse.ensures ∙ sym c.loop-here.invariant.0
 
 pub loop-here-preserved : goal.loop-here-preserved
-loop-here-preserved c =
-    (
-      c.loop-here.invariant.0 ∙ sym (locate_on _ _ _ _ c.loop-here-test.true c.if-more-eq0.false c.record_at.ensures c.in-Value.is),
-      omega
-          arith,
-    )
+loop-here-preserved c = (
+  c.loop-here.invariant.0 ∙ sym (locate_on _ _ _ _ c.loop-here-test.true c.if-more-eq0.false c.record_at.ensures c.in-Value.is),
+  omega
+      arith,
+)
 
 pub returns-in-Refused : goal.returns-in-Refused
 returns-in-Refused c = locate_refused _ _ _ _ c.loop-here-test.true c.if-more-eq0.false c.record_at.ensures c.in-Refused.is ∙ sym c.loop-here.invariant.0

@@ -23,12 +23,12 @@ pub returns-in_default-info : goal.returns-in_default-info
 unfolding form_of
 returns-in_default-info c =
     simp (
-  info_of_lem c.args.byte (omega arith),
-  c.in-1.is,
-  ne_eqb _ _ c.in_default-info.in_default-info-own.rest.0.1,
-  ne_eqb _ _
-      c.in_default-info.in_default-info-own.rest.1,
-)
+      info_of_lem c.args.byte (omega arith),
+      c.in-1.is,
+      ne_eqb _ _ c.in_default-info.in_default-info-own.rest.0.1,
+      ne_eqb _ _
+          c.in_default-info.in_default-info-own.rest.1,
+    )
 
 pub returns-in-2 : goal.returns-in-2
 unfolding form_of
@@ -82,12 +82,12 @@ pub returns-in_default-info-2 : goal.returns-in_default-info-2
 unfolding form_of
 returns-in_default-info-2 c =
     simp (
-  info_of_lem c.args.byte (omega arith),
-  c.in-10.is,
-  ne_eqb _ _ c.in_default-info-2.in_default-info-2-own.rest.0.1,
-  ne_eqb _ _
-      c.in_default-info-2.in_default-info-2-own.rest.1,
-)
+      info_of_lem c.args.byte (omega arith),
+      c.in-10.is,
+      ne_eqb _ _ c.in_default-info-2.in_default-info-2-own.rest.0.1,
+      ne_eqb _ _
+          c.in_default-info-2.in_default-info-2-own.rest.1,
+    )
 
 pub returns-in_default : goal.returns-in_default
 unfolding form_of
