@@ -1,11 +1,10 @@
 """kit.py: what the tools of this folder share: the names of the library, the kit's programs, and how a tool fails.
 
 The kit is found by `rt doc`. Its clang is LLVM's many tools in one file, each called by a name of its own (llvm-nm, lld-link, ..): so
-all that the library's build needs is the kit and python3.
+all that the library's build needs is the kit, python3 and bash. Nothing here makes a link below the repository: `rt ci` refuses one.
 """
 import fcntl
 import os
-import platform
 import shutil
 import subprocess
 import sys
@@ -44,24 +43,25 @@ def run(*words, **more):
 def _home():
     if not shutil.which("rt"):
         fail("rt, the command of the Rattle kit, is not on the path")
-    return Path(run("rt", "doc").strip().rsplit("/docs/", 1)[0])
+    return Path(run("rt", "doc").strip()).parent
 
 
 HOME = _home()
-MACHINE = platform.machine()
-TOOLCHAIN = HOME / "on" / MACHINE / "toolchain"
+TOOLCHAIN = HOME / "toolchain"
 LIB = TOOLCHAIN / "lib"             # the loader and the C library for x86-64 Linux
 CLANG = TOOLCHAIN / "bin/clang"
 
 
 def tool(name):
-    """A tool of LLVM: a link of that name to the kit's clang."""
-    link = WORK / "bin" / name
-    if not link.is_symlink() or os.readlink(link) != str(CLANG):
-        link.parent.mkdir(parents=True, exist_ok=True)
-        link.unlink(missing_ok=True)
-        link.symlink_to(CLANG)
-    return link
+    """A tool of LLVM: a script that calls the kit's clang by that name."""
+    script, text = WORK / "bin" / name, f"#!/usr/bin/env bash\nexec -a {name} '{CLANG}' \"$@\"\n"
+    if not script.exists() or script.read_text() != text:
+        script.parent.mkdir(parents=True, exist_ok=True)
+        part = script.with_name(f"{name}.{os.getpid()}")
+        part.write_text(text)
+        part.chmod(0o755)
+        part.rename(script)
+    return script
 
 
 def alone(name):
@@ -73,10 +73,8 @@ def alone(name):
 
 
 def on_linux(program, *words):
-    """The words that run a program for x86-64 Linux here: the kit's loader, and on another processor its emulator."""
-    emulator = TOOLCHAIN / "bin/qemu-x86_64"
-    first = [str(emulator)] if emulator.exists() else []
-    return first + [str(LIB / "ld-linux-x86-64.so.2"), "--library-path", str(LIB), str(program), *map(str, words)]
+    """The words that run a program for x86-64 Linux by the kit's loader and C library."""
+    return [str(LIB / "ld-linux-x86-64.so.2"), "--library-path", str(LIB), str(program), *map(str, words)]
 
 
 def install(package, why):

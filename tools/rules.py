@@ -65,7 +65,7 @@ def faults(functions):
         crate = function.split('::')[0]
         promise = contract[contract.find('ensures'):]
         for alias, (home, name) in imports(crate).items():
-            if re.search(rf'(?<![\w«.]){re.escape(alias)}(?![\w»])', promise) and name.endswith(('Of', 'Out')) and (home, name) in told:
+            if re.search(rf'(?<![\w«.]){re.escape(alias)}(?![\w»])', promise) and name.endswith(('_of', '_out')) and (home, name) in told:
                 numbers, path = told[home, name]
                 if not numbers:
                     yield f'{path}: {name}, which the contract of {function} cites, names no rule'
@@ -74,11 +74,11 @@ def faults(functions):
 def imports(crate):
     """name in the contracts of a crate -> (crate that defines it, its name there)"""
     names = {}
-    for module, listed in re.findall(r'^ghost use (Rattle·\w+)[·.][^{]*\{([^}]*)\};', read(f'crates/{crate}/src/lib.rt'), re.M | re.S):
+    for home, listed in re.findall(r'^ghost use Rattle\.(\w+)\.[^{;]*\{([^}]*)\};', read(f'crates/{crate}/src/lib.rt'), re.M | re.S):
         for item in listed.split(','):
             original, _, alias = (word.strip() for word in item.partition(' as '))
             if original:
-                names[alias or original] = (module.split('·')[1], original)
+                names[alias or original] = (home, original)
     return names
 
 
