@@ -2,6 +2,7 @@
 """Respells the repository's own definitions and lemmas: words in snake case, types and modules in camel case.
 
 usage: tools/respell.py LANDED [ROOT]    LANDED: a folder with the repository before the scripts of the kit ran; ROOT: the repository, '.' by default
+       tools/respell.py --table LANDED   prints the table alone: old, a tab, new
 
 The table comes from the names that LANDED's specs/ and proofs/ declare. Functions, variants and fields of src/, exported names and quoted text
 keep their spelling. A lemma that would get the name of a definition gets `_lem`, a definition that would get the name of a struct's field `_of`.
@@ -136,6 +137,10 @@ def source(text, names):
 
 
 def main(argv):
+    if argv[0] == "--table":
+        for old, new in sorted(table(argv[1]).items()):
+            print(f"{old}\t{new}")
+        return
     landed, root = argv[0], argv[1] if len(argv) > 1 else "."
     names = table(landed)
     lemmas = {s[: -len("_lem")]: (k, s) for k, s in names.items() if s.endswith("_lem")}
