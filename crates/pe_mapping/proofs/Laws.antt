@@ -158,7 +158,8 @@ turn_of r n s at alignment address =
     on_read_section_table r Refused
     (λ h. pick (holds alignment h address) (Value (offset_in h address)) (first_of n s (at + 40) alignment address))
 
-turn_of_lem : (n : ℕ) (s : List ℕ) (at alignment address : ℕ) → 0 < n → first_of n s at alignment address ≡ turn_of (read_of s at) (n - 1) s at alignment address
+turn_of_lem : (n : ℕ) (s : List ℕ) (at alignment address : ℕ) → 0 < n
+    → first_of n s at alignment address ≡ turn_of (read_of s at) (n - 1) s at alignment address
 unfolding first_of
 turn_of_lem zero s at alignment address p = absurd (not-suc-le-zero p)
 turn_of_lem (suc n) s at alignment address p = let q : suc n - 1 ≡ n = omega arith in rw q

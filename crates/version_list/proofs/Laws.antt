@@ -188,7 +188,8 @@ module _ (k : VersionRecord) (big : Bool) (s : List ℕ) where
   -- the rest of a list is written after its first row
   pub rest_put : (n at : ℕ) (f o l : List ℕ) (base : ℕ) → First k big s n at → f ≡ put o base (flat (entries_from k big s n at).rows)
       → l ≡ put o base (row_at k big s at) → base + n * suc (length (layout k)) ≤ length o → 0 < n
-      → (f ≡ put l (base + suc (length (layout k))) (flat (entries_from k big s (n - 1) (place_after at (onward_at_of k big s at))).rows)) × (length l ≡ length o)
+      → (f ≡ put l (base + suc (length (layout k))) (flat (entries_from k big s (n - 1) (place_after at (onward_at_of k big s at))).rows)) ×
+      (length l ≡ length o)
   rest_put n at f o l base i e g r h =
       let rest : List ℕ = flat (entries_from k big s (n - 1) (place_after at (onward_at_of k big s at))).rows in
       let a : length (row_at k big s at) ≡ suc (length (layout k)) = ap suc (length_numbers big (layout k) s at) in

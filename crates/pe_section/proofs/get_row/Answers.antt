@@ -11,7 +11,8 @@ pub returns-then-count-gt-LIMIT : goal.returns-then-count-gt-LIMIT
 returns-then-count-gt-LIMIT c = section_many _ _ _ _ c.if-file-gt-FILE_LIMIT.false c.if-count-gt-LIMIT.true c.refuse-then-count-gt-LIMIT.ensures
 
 pub returns-then-count-index : goal.returns-then-count-index
-returns-then-count-index c = section_none _ _ _ _ c.if-file-gt-FILE_LIMIT.false c.if-count-gt-LIMIT.false c.if-count-index.true c.refuse-then-count-index.ensures
+returns-then-count-index c =
+    section_none _ _ _ _ c.if-file-gt-FILE_LIMIT.false c.if-count-gt-LIMIT.false c.if-count-index.true c.refuse-then-count-index.ensures
 
 pub returns-then-from-table : goal.returns-then-from-table
 returns-then-from-table c =

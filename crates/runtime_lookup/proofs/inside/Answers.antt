@@ -35,7 +35,9 @@ pub overflow_add-reads : goal.overflow_add-reads
 overflow_add-reads c = let r = inside_read _ _ _ _ _ _ _ c.requires.table_within c.loop-low.invariant c.loop-low-test.true c.requires.file_within in omega arith
 
 pub loop-low-preserved-then-address-begin : goal.loop-low-preserved-then-address-begin
-loop-low-preserved-then-address-begin c = inside_before _ _ _ _ _ _ _ c.requires.table_within c.loop-low.invariant c.loop-low-test.true c.u32_at-begin.ensures c.if-address-begin.true
+loop-low-preserved-then-address-begin c =
+    inside_before _ _ _ _ _ _ _ c.requires.table_within c.loop-low.invariant c.loop-low-test.true c.u32_at-begin.ensures
+    c.if-address-begin.true
 
 pub returns-then-address-end : goal.returns-then-address-end
 returns-then-address-end c =

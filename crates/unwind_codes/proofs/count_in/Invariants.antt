@@ -10,7 +10,9 @@ use Rattle.unwind_codes.proofs.Laws.{count_from}
 use Rattle.unwind_codes.proofs.count_in.Given as goal
 
 abbrev pub invariant-loop-place : goal.invariant-loop-place
-invariant-loop-place l = (count_in (codes_at l.slots 0 l.version l.frame.0) ≡ count_from l.codes (codes_at l.slots l.place l.version l.frame.0)) × (l.codes ≤ l.place)
+invariant-loop-place l =
+    (count_in (codes_at l.slots 0 l.version l.frame.0) ≡ count_from l.codes (codes_at l.slots l.place l.version l.frame.0)) ×
+    (l.codes ≤ l.place)
 
 abbrev pub decreases-loop-place : goal.decreases-loop-place
 decreases-loop-place l = slot_count l.slots - l.place

@@ -9,7 +9,9 @@ pub returns-then-file-gt-FILE_LIMIT : goal.returns-then-file-gt-FILE_LIMIT
 returns-then-file-gt-FILE_LIMIT c = long_file _ _ _ _ _ _ _ _ c.if-file-gt-FILE_LIMIT.true c.refuse.ensures
 
 pub returns-then-stated-gt-RECORD_LIMIT : goal.returns-then-stated-gt-RECORD_LIMIT
-returns-then-stated-gt-RECORD_LIMIT c = many_stated _ _ _ _ _ _ _ _ c.if-file-gt-FILE_LIMIT.false c.if-stated-gt-RECORD_LIMIT.true c.refuse-then-stated-gt-RECORD_LIMIT.ensures
+returns-then-stated-gt-RECORD_LIMIT c =
+    many_stated _ _ _ _ _ _ _ _ c.if-file-gt-FILE_LIMIT.false c.if-stated-gt-RECORD_LIMIT.true
+    c.refuse-then-stated-gt-RECORD_LIMIT.ensures
 
 pub returns-then-fits : goal.returns-then-fits
 returns-then-fits c =

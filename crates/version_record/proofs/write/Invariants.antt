@@ -12,7 +12,8 @@ use Rattle.version_record.proofs.write.Given as goal
 
 abbrev pub invariant-loop-i : goal.invariant-loop-i
 invariant-loop-i l =
-    (l.i ≤ l.n) × (l.next ≡ l.at + size' (take l.i (layout l.kind))) × (l.out ≡ put l.initial.out l.base (take l.i (numbers_at l.big (layout l.kind) l.section l.at))) ×
+    (l.i ≤ l.n) × (l.next ≡ l.at + size' (take l.i (layout l.kind))) ×
+    (l.out ≡ put l.initial.out l.base (take l.i (numbers_at l.big (layout l.kind) l.section l.at))) ×
     (length l.out ≡ length l.initial.out)
 
 abbrev pub decreases-loop-i : goal.decreases-loop-i
