@@ -5,7 +5,7 @@ use mathlib.Core.List.{List}
 use Prim.Native.Nat.{ℕ, ◌+◌}
 use Rattle.answer.specs.declared.Reason.{Reason}
 use Rattle.answer.specs.declared.Refusal.{Refusal}
-use Rattle.answer.specs.Answer.{refuse_of, cut_of, beyond_of, number_of}
+use Rattle.answer.specs.Answer.{alone, refuse_of, cut_of, beyond_of, number_of}
 use Rattle.answer.specs.Words.{words_of}
 
 -- of an answer
@@ -30,3 +30,7 @@ beyond_unique = same
 
 pub number_unique : (k : Refusal) {r q : ℕ} → r ≡ number_of k → q ≡ number_of k → r ≡ q
 number_unique k = same
+
+-- of the number that a number stands for
+pub numbers_unique : (n : ℕ) {r q : List ℕ} → r ≡ alone n → q ≡ alone n → r ≡ q
+numbers_unique n = same

@@ -1,6 +1,6 @@
 -- The answers (2.1): why a door refuses, the number of each reason, and what an answer stands for, whatever enum it is written as.
 -- Assumes nothing.
-use Rattle.std.specs.Prelude.{ℕ, ◌^◌, List, Bool, true, false, replicate, ltb}
+use Rattle.std.specs.Prelude.{ℕ, [], ◌∷◌, ◌^◌, List, Bool, true, false, replicate, ltb, Result, Ok, Err}
 use Rattle.answer.specs.declared.Reason.{Reason}
 use Rattle.answer.specs.declared.Reason.TheVariants as reason
 use Rattle.answer.specs.declared.Refusal.{Refusal}
@@ -111,6 +111,20 @@ pub data Answer : Type 0 where
   accepted : List ℕ → Answer
   partly : List ℕ → Answer
   refused : Refusal → Answer
+
+-- a number, which stands for itself alone
+abbrev pub alone : ℕ → List ℕ
+alone n = n ∷ []
+
+-- 2.2: the answer of a door that accepts values of one type, which stand for those numbers, or refuses
+abbrev pub answer_of : {A : Type 0} → (A → List ℕ) → Result A Refusal → Answer
+answer_of numbers (Ok a) = accepted (numbers a)
+answer_of numbers (Err k) = refused k
+
+-- goes on with what was accepted, or hands the refusal on
+abbrev pub on_ok : {A B : Type 0} → Result A Refusal → (Refusal → B) → (A → B) → B
+on_ok (Ok a) refusal on = on a
+on_ok (Err k) refusal on = refusal k
 
 -- 2.1: the number of an answer: 0 where it is accepted, 1 beside a list that ends at bad bytes
 abbrev pub number : Answer → ℕ

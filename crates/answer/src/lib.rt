@@ -1,12 +1,15 @@
 // The answers of every door: why one refuses, the refusal that readers hand on unchanged, and the words for each number.
 #![tactic(auto)]
 
-ghost use Rattle.std.specs.Prelude.{◌≡◌, ◌+◌};
-ghost use Rattle.answer.specs.Answer.{refuse_of, cut_of, beyond_of, number_of};
+ghost use Rattle.std.specs.Prelude.{◌≡◌, ℕ, ◌+◌, List};
+ghost use Rattle.answer.specs.Answer.{alone, refuse_of, cut_of, beyond_of, number_of};
 ghost use Rattle.answer.specs.Words.{words_of};
 
+use std::error::Error;
+use std::{fmt, str};
+
 // Why a door refuses. The number of each is its place in this list, from 1 on.
-#[derive(Clone, Copy)]
+#[derive(Clone, Copy, Debug, PartialEq, Eq, Hash)]
 pub enum Reason {
     Short,
     Magic,
@@ -26,31 +29,105 @@ pub enum Reason {
 }
 
 // What a door that refuses hands back. It has no number 0: that is the number of what is accepted.
-#[derive(Clone, Copy)]
+#[derive(Clone, Copy, Debug, PartialEq, Eq, Hash)]
 pub struct Refusal {
     pub reason: Reason,
+}
+
+impl Error for Refusal {}
+
+impl fmt::Display for Refusal {
+    fn fmt<W: fmt::Write>(&self, f: &mut fmt::Formatter<W>) -> fmt::Result {
+        let row = words((*self).into());
+        f.write_str(str::from_utf8(&row).unwrap_or("").trim_end())
+    }
+}
+
+// Every refusal is made here, but for those of missing bytes.
+impl From<Reason> for Refusal {
+    ghost from_gives = { λ why k. k ≡ refuse_of why };
+
+    fn from(reason: Reason) -> Refusal {
+        Refusal { reason }
+    }
+}
+
+// The number of a refusal, never 0.
+impl From<Refusal> for u8 {
+    ghost from_gives = { λ k n. n ≡ number_of k };
+
+    fn from(refusal: Refusal) -> u8 {
+        match refusal.reason {
+            Reason::Short => 1,
+            Reason::Magic => 2,
+            Reason::Limit => 3,
+            Reason::Contradiction => 4,
+            Reason::NoSection => 5,
+            Reason::Version => 6,
+            Reason::Operation => 7,
+            Reason::Links => 8,
+            Reason::Order => 9,
+            Reason::NotFound => 10,
+            Reason::NotStrict => 11,
+            Reason::Stack => 12,
+            Reason::Room => 13,
+            Reason::PastFile => 14,
+            Reason::Machine => 15,
+        }
+    }
+}
+
+// What a door accepts, as the numbers that it stands for.
+pub trait Numbers<const N: usize>: Copy {
+    ghost numbers: { Self → List ℕ };
+
+    fn numbers(self) -> [u64; N]
+        ensures { result ≡ numbers self };
+}
+
+impl Numbers<1> for u8 {
+    ghost numbers = { alone };
+
+    fn numbers(self) -> [u64; 1] {
+        [self.into()]
+    }
+}
+
+impl Numbers<1> for u16 {
+    ghost numbers = { alone };
+
+    fn numbers(self) -> [u64; 1] {
+        [self.into()]
+    }
+}
+
+impl Numbers<1> for u32 {
+    ghost numbers = { alone };
+
+    fn numbers(self) -> [u64; 1] {
+        [self.into()]
+    }
+}
+
+impl Numbers<1> for u64 {
+    ghost numbers = { alone };
+
+    fn numbers(self) -> [u64; 1] {
+        [self]
+    }
 }
 
 // The longest file that a door takes, in bytes.
 pub const FILE_LIMIT: usize = 268_435_456;
 
-const LAST: usize = 0xFFFF_FFFF_FFFF_FFFF;
-
 const ANSWERS: usize = 16;
-
-// Every refusal is made here, but for those of missing bytes.
-pub fn refuse(reason: Reason) -> Refusal
-    ensures { result ≡ refuse_of reason }
-{
-    Refusal { reason }
-}
 
 // The refusal where the bytes end before a field of `width` bytes at `at` does.
 #[tactic(auto, using(crate::proofs::Laws::cut_within, crate::proofs::Laws::cut_beyond))]
 pub fn cut(at: usize, width: usize) -> Refusal
     ensures { result ≡ cut_of (at + width) }
 {
-    if LAST - width < at {
+    if usize::MAX - width < at {
         return beyond();
     }
     Refusal {
@@ -63,31 +140,7 @@ pub fn cut(at: usize, width: usize) -> Refusal
 pub fn beyond() -> Refusal
     ensures { result ≡ beyond_of }
 {
-    refuse(Reason::Short)
-}
-
-// The number of a refusal, never 0.
-pub fn number(refusal: Refusal) -> u8
-    ensures { result ≡ number_of refusal }
-{
-    let reason = refusal.reason;
-    match reason {
-        Reason::Short => 1,
-        Reason::Magic => 2,
-        Reason::Limit => 3,
-        Reason::Contradiction => 4,
-        Reason::NoSection => 5,
-        Reason::Version => 6,
-        Reason::Operation => 7,
-        Reason::Links => 8,
-        Reason::Order => 9,
-        Reason::NotFound => 10,
-        Reason::NotStrict => 11,
-        Reason::Stack => 12,
-        Reason::Room => 13,
-        Reason::PastFile => 14,
-        Reason::Machine => 15,
-    }
+    Reason::Short.into()
 }
 
 // The words for a number, filled up with spaces; for a number above the last, the row after it.

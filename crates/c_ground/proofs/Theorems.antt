@@ -9,54 +9,53 @@ use Prim.Native.Nat.{ℕ}
 use Rattle.answer.proofs.Unique.{same, same_both}
 use Rattle.answer.specs.Answer.{number, values}
 use Rattle.answer.specs.Words.{words_of}
-use Rattle.cursor.specs.Answers.{answer_next_u16, answer_next_u32, answer_next_u64, answer_next_u8, count_next_u16, count_next_u32, count_next_u64, count_next_u8}
-use Rattle.fields.specs.Answers.{answer_read_u16, answer_read_u32, answer_read_u64, answer_read_u8, count_read_u16, count_read_u32, count_read_u64, count_read_u8}
+use Rattle.fields.specs.Answers.{answer_read, count_read}
 use Rattle.fields.specs.Field.{fits_of, write_out}
-use Rattle.c_ground.specs.Fields.{next_u16, next_u32, next_u64, next_u8, read_u16, read_u32, read_u64, read_u8, write_number}
+use Rattle.c_ground.specs.Fields.{answer_next, count_next, next_u16, next_u32, next_u64, next_u8, read_u16, read_u32, read_u64, read_u8, write_number}
 
 pub hullsift_read_u8_unique : (bytes : List ℕ) (at : ℕ) {r q : ℕ} {l k : List ℕ}
-    → (r ≡ number (answer_read_u8 (read_u8 bytes at))) × (l ≡ values count_read_u8 (answer_read_u8 (read_u8 bytes at)))
-    → (q ≡ number (answer_read_u8 (read_u8 bytes at))) × (k ≡ values count_read_u8 (answer_read_u8 (read_u8 bytes at))) → (r ≡ q) × (l ≡ k)
+    → (r ≡ number (answer_read (read_u8 bytes at))) × (l ≡ values count_read (answer_read (read_u8 bytes at)))
+    → (q ≡ number (answer_read (read_u8 bytes at))) × (k ≡ values count_read (answer_read (read_u8 bytes at))) → (r ≡ q) × (l ≡ k)
 hullsift_read_u8_unique bytes at = same_both
 
 pub hullsift_next_u8_unique : (bytes : List ℕ) (at : ℕ) {r q : ℕ} {l k : List ℕ}
-    → (r ≡ number (answer_next_u8 (next_u8 bytes at))) × (l ≡ values count_next_u8 (answer_next_u8 (next_u8 bytes at)))
-    → (q ≡ number (answer_next_u8 (next_u8 bytes at))) × (k ≡ values count_next_u8 (answer_next_u8 (next_u8 bytes at))) → (r ≡ q) × (l ≡ k)
+    → (r ≡ number (answer_next (next_u8 bytes at))) × (l ≡ values count_next (answer_next (next_u8 bytes at)))
+    → (q ≡ number (answer_next (next_u8 bytes at))) × (k ≡ values count_next (answer_next (next_u8 bytes at))) → (r ≡ q) × (l ≡ k)
 hullsift_next_u8_unique bytes at = same_both
 
 pub hullsift_read_u16_unique : (bytes : List ℕ) (at : ℕ) (big : Bool) {r q : ℕ} {l k : List ℕ}
-    → (r ≡ number (answer_read_u16 (read_u16 big bytes at))) × (l ≡ values count_read_u16 (answer_read_u16 (read_u16 big bytes at)))
-    → (q ≡ number (answer_read_u16 (read_u16 big bytes at))) × (k ≡ values count_read_u16 (answer_read_u16 (read_u16 big bytes at)))
+    → (r ≡ number (answer_read (read_u16 big bytes at))) × (l ≡ values count_read (answer_read (read_u16 big bytes at)))
+    → (q ≡ number (answer_read (read_u16 big bytes at))) × (k ≡ values count_read (answer_read (read_u16 big bytes at)))
     → (r ≡ q) × (l ≡ k)
 hullsift_read_u16_unique bytes at big = same_both
 
 pub hullsift_next_u16_unique : (bytes : List ℕ) (at : ℕ) (big : Bool) {r q : ℕ} {l k : List ℕ}
-    → (r ≡ number (answer_next_u16 (next_u16 big bytes at))) × (l ≡ values count_next_u16 (answer_next_u16 (next_u16 big bytes at)))
-    → (q ≡ number (answer_next_u16 (next_u16 big bytes at))) × (k ≡ values count_next_u16 (answer_next_u16 (next_u16 big bytes at)))
+    → (r ≡ number (answer_next (next_u16 big bytes at))) × (l ≡ values count_next (answer_next (next_u16 big bytes at)))
+    → (q ≡ number (answer_next (next_u16 big bytes at))) × (k ≡ values count_next (answer_next (next_u16 big bytes at)))
     → (r ≡ q) × (l ≡ k)
 hullsift_next_u16_unique bytes at big = same_both
 
 pub hullsift_read_u32_unique : (bytes : List ℕ) (at : ℕ) (big : Bool) {r q : ℕ} {l k : List ℕ}
-    → (r ≡ number (answer_read_u32 (read_u32 big bytes at))) × (l ≡ values count_read_u32 (answer_read_u32 (read_u32 big bytes at)))
-    → (q ≡ number (answer_read_u32 (read_u32 big bytes at))) × (k ≡ values count_read_u32 (answer_read_u32 (read_u32 big bytes at)))
+    → (r ≡ number (answer_read (read_u32 big bytes at))) × (l ≡ values count_read (answer_read (read_u32 big bytes at)))
+    → (q ≡ number (answer_read (read_u32 big bytes at))) × (k ≡ values count_read (answer_read (read_u32 big bytes at)))
     → (r ≡ q) × (l ≡ k)
 hullsift_read_u32_unique bytes at big = same_both
 
 pub hullsift_next_u32_unique : (bytes : List ℕ) (at : ℕ) (big : Bool) {r q : ℕ} {l k : List ℕ}
-    → (r ≡ number (answer_next_u32 (next_u32 big bytes at))) × (l ≡ values count_next_u32 (answer_next_u32 (next_u32 big bytes at)))
-    → (q ≡ number (answer_next_u32 (next_u32 big bytes at))) × (k ≡ values count_next_u32 (answer_next_u32 (next_u32 big bytes at)))
+    → (r ≡ number (answer_next (next_u32 big bytes at))) × (l ≡ values count_next (answer_next (next_u32 big bytes at)))
+    → (q ≡ number (answer_next (next_u32 big bytes at))) × (k ≡ values count_next (answer_next (next_u32 big bytes at)))
     → (r ≡ q) × (l ≡ k)
 hullsift_next_u32_unique bytes at big = same_both
 
 pub hullsift_read_u64_unique : (bytes : List ℕ) (at : ℕ) (big : Bool) {r q : ℕ} {l k : List ℕ}
-    → (r ≡ number (answer_read_u64 (read_u64 big bytes at))) × (l ≡ values count_read_u64 (answer_read_u64 (read_u64 big bytes at)))
-    → (q ≡ number (answer_read_u64 (read_u64 big bytes at))) × (k ≡ values count_read_u64 (answer_read_u64 (read_u64 big bytes at)))
+    → (r ≡ number (answer_read (read_u64 big bytes at))) × (l ≡ values count_read (answer_read (read_u64 big bytes at)))
+    → (q ≡ number (answer_read (read_u64 big bytes at))) × (k ≡ values count_read (answer_read (read_u64 big bytes at)))
     → (r ≡ q) × (l ≡ k)
 hullsift_read_u64_unique bytes at big = same_both
 
 pub hullsift_next_u64_unique : (bytes : List ℕ) (at : ℕ) (big : Bool) {r q : ℕ} {l k : List ℕ}
-    → (r ≡ number (answer_next_u64 (next_u64 big bytes at))) × (l ≡ values count_next_u64 (answer_next_u64 (next_u64 big bytes at)))
-    → (q ≡ number (answer_next_u64 (next_u64 big bytes at))) × (k ≡ values count_next_u64 (answer_next_u64 (next_u64 big bytes at)))
+    → (r ≡ number (answer_next (next_u64 big bytes at))) × (l ≡ values count_next (answer_next (next_u64 big bytes at)))
+    → (q ≡ number (answer_next (next_u64 big bytes at))) × (k ≡ values count_next (answer_next (next_u64 big bytes at)))
     → (r ≡ q) × (l ≡ k)
 hullsift_next_u64_unique bytes at big = same_both
 

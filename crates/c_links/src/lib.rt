@@ -8,12 +8,10 @@ ghost use Rattle.c_sections.specs.Sections.{read_sections_of};
 ghost use Rattle.runtime_function.specs.Answers.{answer_read_runtime_function, count_read_runtime_function};
 ghost use Rattle.unwind_chain.specs.Answers.{answer_count_all_codes, count_count_all_codes};
 ghost use Rattle.unwind_chain.specs.Chain.{count_all_codes_of};
-ghost use Rattle.unwind_links.specs.Answers.{answer_reach_info, count_reach_info, reached_numbers};
+ghost use Rattle.unwind_links.specs.Answers.{answer_reach_info, count_reach_info};
 ghost use Rattle.unwind_links.specs.Links.{chained_info_of, first_info_of, record_at_of};
 
 use runtime_function::RuntimeFunction;
-use unwind_chain::CountAllCodes;
-use unwind_links::{ReachInfo, ReachedInfo};
 
 // The info of a runtime record, odd addresses followed.
 #[unsafe(no_mangle)]
@@ -28,11 +26,9 @@ pub extern "C" fn hullsift_first_info(
     ensures answer { result ≡ number (answer_reach_info (first_info_of file.now (read_sections_of sections.now) (record { begin = begin; end = end; unwind = unwind }))) }
     ensures values { out.new ≡ values count_reach_info (answer_reach_info (first_info_of file.now (read_sections_of sections.now) (record { begin = begin; end = end; unwind = unwind }))) }
 {
-    let numbers = c_sections::read_sections(sections);
+    let sections = c_sections::read_sections(sections);
     let function = RuntimeFunction { begin, end, unwind };
-    let a = unwind_links::first_info(file, numbers, function);
-    *out = reach_info_values(a);
-    reach_info_number(a)
+    c_numbers::store(unwind_links::first_info(file, sections, function), out)
 }
 
 // The info that another one is chained to, by the record that it is chained to and the links that led to it.
@@ -49,11 +45,12 @@ pub extern "C" fn hullsift_next_info(
     ensures answer { result ≡ number (answer_reach_info (chained_info_of file.now (read_sections_of sections.now) (record { begin = begin; end = end; unwind = unwind }) links)) }
     ensures values { out.new ≡ values count_reach_info (answer_reach_info (chained_info_of file.now (read_sections_of sections.now) (record { begin = begin; end = end; unwind = unwind }) links)) }
 {
-    let numbers = c_sections::read_sections(sections);
+    let sections = c_sections::read_sections(sections);
     let function = RuntimeFunction { begin, end, unwind };
-    let a = unwind_links::chained_info(file, numbers, function, links);
-    *out = reach_info_values(a);
-    reach_info_number(a)
+    c_numbers::store(
+        unwind_links::chained_info(file, sections, function, links),
+        out,
+    )
 }
 
 // The runtime record at an address.
@@ -67,10 +64,8 @@ pub extern "C" fn hullsift_record_at(
     ensures answer { result ≡ number (answer_read_runtime_function (record_at_of file.now (read_sections_of sections.now) address)) }
     ensures values { out.new ≡ values count_read_runtime_function (answer_read_runtime_function (record_at_of file.now (read_sections_of sections.now) address)) }
 {
-    let numbers = c_sections::read_sections(sections);
-    let a = unwind_links::record_at(file, numbers, address);
-    *out = c_numbers::read_runtime_function_values(a);
-    c_numbers::read_runtime_function_number(a)
+    let sections = c_sections::read_sections(sections);
+    c_numbers::store(unwind_links::record_at(file, sections, address), out)
 }
 
 // How many links and codes all infos of a runtime record have, every code decoded.
@@ -86,70 +81,7 @@ pub extern "C" fn hullsift_count_all_codes(
     ensures answer { result ≡ number (answer_count_all_codes (count_all_codes_of file.now (read_sections_of sections.now) (record { begin = begin; end = end; unwind = unwind }))) }
     ensures values { out.new ≡ values count_count_all_codes (answer_count_all_codes (count_all_codes_of file.now (read_sections_of sections.now) (record { begin = begin; end = end; unwind = unwind }))) }
 {
-    let numbers = c_sections::read_sections(sections);
+    let sections = c_sections::read_sections(sections);
     let function = RuntimeFunction { begin, end, unwind };
-    let a = unwind_chain::count_all_codes(file, numbers, function);
-    *out = count_all_codes_values(a);
-    count_all_codes_number(a)
-}
-
-fn reach_info_number(a: ReachInfo) -> u8
-    ensures { result ≡ number (answer_reach_info a) }
-{
-    match a {
-        ReachInfo::Value(_) => 0,
-        ReachInfo::Refused(k) => answer::number(k),
-    }
-}
-
-fn reach_info_values(a: ReachInfo) -> [u64; 15]
-    ensures { result ≡ values count_reach_info (answer_reach_info a) }
-{
-    match a {
-        ReachInfo::Value(r) => reached_values(r),
-        ReachInfo::Refused(_) => [0; 15],
-    }
-}
-
-fn reached_values(r: ReachedInfo) -> [u64; 15]
-    ensures { result ≡ reached_numbers r }
-{
-    let place = r.place;
-    let info = r.info;
-    let i = c_infos::info_values(info);
-    [
-        place.begin as u64,
-        place.offset as u64,
-        place.links as u64,
-        i[0],
-        i[1],
-        i[2],
-        i[3],
-        i[4],
-        i[5],
-        i[6],
-        i[7],
-        i[8],
-        i[9],
-        i[10],
-        i[11],
-    ]
-}
-
-fn count_all_codes_number(a: CountAllCodes) -> u8
-    ensures { result ≡ number (answer_count_all_codes a) }
-{
-    match a {
-        CountAllCodes::Value(_) => 0,
-        CountAllCodes::Refused(k) => answer::number(k),
-    }
-}
-
-fn count_all_codes_values(a: CountAllCodes) -> [u64; 2]
-    ensures { result ≡ values count_count_all_codes (answer_count_all_codes a) }
-{
-    match a {
-        CountAllCodes::Value(t) => [t.links as u64, t.codes as u64],
-        CountAllCodes::Refused(_) => [0; 2],
-    }
+    c_numbers::store(unwind_chain::count_all_codes(file, sections, function), out)
 }

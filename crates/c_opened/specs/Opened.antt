@@ -1,14 +1,13 @@
 -- Opened exception data as a C caller states it: six numbers.
 -- Assumes nothing.
-use Rattle.std.specs.Prelude.{ℕ, List, get_or, eqb}
+use Rattle.std.specs.Prelude.{Result, Ok, Err, ℕ, List, get_or, eqb}
+use Rattle.answer.specs.declared.Refusal.{Refusal}
 use Rattle.answer.specs.Answer.{machine}
 use Rattle.answer.specs.Test.{must}
 use Rattle.exception_data.specs.Exception.{x64_machine}
 use Rattle.exception_data.specs.declared.RecordForm.TheVariants.{X64}
 use Rattle.exception_data.specs.declared.ExceptionData.{ExceptionData}
 use Rattle.c_sections.specs.Sections.{small_of}
-use Rattle.c_opened.specs.declared.ReadOpened.{ReadOpened}
-use Rattle.c_opened.specs.declared.ReadOpened.TheVariants.{Value, Refused}
 
 -- 8.10: the table's offset and count, and what mapping needs
 abbrev pub stated_data : List ℕ → ExceptionData
@@ -21,5 +20,5 @@ stated_data ns =
     }
 
 -- 15.8: a machine other than 0x8664 is refused with 15
-unfoldable pub read_opened_of : List ℕ → ReadOpened
-read_opened_of ns = must Refused (eqb (get_or ns 0 0) x64_machine) machine (Value (stated_data ns))
+unfoldable pub read_opened_of : List ℕ → Result ExceptionData Refusal
+read_opened_of ns = must Err (eqb (get_or ns 0 0) x64_machine) machine (Ok (stated_data ns))

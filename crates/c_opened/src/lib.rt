@@ -10,32 +10,29 @@ use pe_mapping::Sections;
 
 const X64: u64 = 0x8664;
 
-#[derive(Clone, Copy)]
-pub enum ReadOpened {
-    Value(ExceptionData),
-    Refused(Refusal),
-}
-
 // The machine, the offset of the table, the number of its records, and then what mapping needs.
-pub fn read_opened(numbers: &[u64; 6]) -> ReadOpened
+pub fn read_opened(numbers: &[u64; 6]) -> Result<ExceptionData, Refusal>
     ensures { result ≡ read_opened_of numbers.now }
 {
-    if numbers[0] != X64 {
-        return ReadOpened::Refused(answer::refuse(Reason::Machine));
-    }
-    let table = numbers[1] as usize;
-    let count = numbers[2] as usize;
-    let section_table = numbers[3] as usize;
-    let section_count = numbers[4] as usize;
-    let sections = Sections {
-        table: section_table,
-        count: section_count,
-        alignment: c_sections::small(numbers[5]),
-    };
-    ReadOpened::Value(ExceptionData {
-        form: RecordForm::X64,
+    let [
+        machine,
         table,
         count,
-        sections,
+        section_table,
+        section_count,
+        alignment,
+    ] = *numbers;
+    if machine != X64 {
+        return Err(Reason::Machine.into());
+    }
+    Ok(ExceptionData {
+        form: RecordForm::X64,
+        table: table as usize,
+        count: count as usize,
+        sections: Sections {
+            table: section_table as usize,
+            count: section_count as usize,
+            alignment: c_sections::small(alignment),
+        },
     })
 }

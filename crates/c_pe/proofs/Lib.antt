@@ -1,3 +1,2 @@
--- `Theorems` says that each promise fixes its answer; `Laws` has what proofs cite.
+-- `Theorems` says that the contracts fix what C is handed.
 pub mod Theorems
-mod Laws

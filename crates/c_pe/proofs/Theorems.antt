@@ -11,7 +11,7 @@ use Rattle.c_sections.specs.Sections.{read_sections_of}
 use Rattle.fields.specs.Answers.{answer_write_bytes}
 use Rattle.pe_coff.specs.Answers.{answer_read_coff_header, count_read_coff_header}
 use Rattle.pe_coff.specs.Coff.{read_of as read_coff_of}
-use Rattle.pe_dos.specs.Answers.{answer_read_dos_header}
+use Rattle.pe_dos.specs.Answers.{answer_read_dos_header, header_or_zeros}
 use Rattle.pe_dos.specs.Dos.{read_of as read_dos_of, write_of as write_dos_of, write_out as write_dos_out}
 use Rattle.pe_header.specs.Answers.{answer_open_header, count_open_header}
 use Rattle.pe_header.specs.Header.{open_of}
@@ -24,10 +24,10 @@ use Rattle.pe_section.specs.Section.{get_row_of}
 use Rattle.c_pe.specs.Numbers.{dos_header_of, halves_of}
 
 pub hullsift_read_dos_header_unique : (bytes : List ℕ) (at : ℕ) {r q : ℕ} {l k : List ℕ} {m j : ℕ}
-    → (r ≡ number (answer_read_dos_header (read_dos_of bytes at))) × (l ≡ halves_of (read_dos_of bytes at).header) ×
-    (m ≡ (read_dos_of bytes at).header.pe_pointer)
-    → (q ≡ number (answer_read_dos_header (read_dos_of bytes at))) × (k ≡ halves_of (read_dos_of bytes at).header) ×
-    (j ≡ (read_dos_of bytes at).header.pe_pointer) → (r ≡ q) × (l ≡ k) × (m ≡ j)
+    → (r ≡ number (answer_read_dos_header (read_dos_of bytes at))) × (l ≡ halves_of (header_or_zeros (read_dos_of bytes at))) ×
+    (m ≡ (header_or_zeros (read_dos_of bytes at)).pe_pointer)
+    → (q ≡ number (answer_read_dos_header (read_dos_of bytes at))) × (k ≡ halves_of (header_or_zeros (read_dos_of bytes at))) ×
+    (j ≡ (header_or_zeros (read_dos_of bytes at)).pe_pointer) → (r ≡ q) × (l ≡ k) × (m ≡ j)
 hullsift_read_dos_header_unique bytes at = λ e f. (same e.0 f.0, same e.1 f.1, same e.2 f.2)
 
 pub hullsift_write_dos_header_unique : (bytes : List ℕ) (at : ℕ) (halves : List ℕ) (pe_pointer : ℕ) {r q : ℕ} {l k : List ℕ}

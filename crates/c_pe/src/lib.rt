@@ -4,28 +4,23 @@
 
 ghost use Rattle.std.specs.Prelude.{◌≡◌};
 ghost use Rattle.answer.specs.Answer.{number, values};
-ghost use Rattle.c_pe.specs.Numbers.{dos_header_of, halves_of, header_numbers, optional_numbers};
+ghost use Rattle.c_pe.specs.Numbers.{dos_header_of, halves_of};
 ghost use Rattle.c_sections.specs.Sections.{read_sections_of};
 ghost use Rattle.fields.specs.Answers.{answer_write_bytes};
 ghost use Rattle.pe_coff.specs.Answers.{answer_read_coff_header, count_read_coff_header};
 ghost use Rattle.pe_coff.specs.Coff.{read_of as read_coff_of};
-ghost use Rattle.pe_dos.specs.Answers.{answer_read_dos_header};
+ghost use Rattle.pe_dos.specs.Answers.{answer_read_dos_header, header_or_zeros};
 ghost use Rattle.pe_dos.specs.Dos.{read_of as read_dos_of, write_of as write_dos_of, write_out as write_dos_out};
 ghost use Rattle.pe_header.specs.Answers.{answer_open_header, count_open_header};
 ghost use Rattle.pe_header.specs.Header.{open_of};
 ghost use Rattle.pe_mapping.specs.Answers.{answer_find_offset, count_find_offset};
 ghost use Rattle.pe_mapping.specs.Mapping.{find_offset_of};
-ghost use Rattle.pe_optional.specs.Answers.{answer_read_optional_header, count_read_optional_header, numbers_of as directory_numbers};
-ghost use Rattle.pe_optional.specs.Optional.{magic_of, read_of as read_optional_of};
+ghost use Rattle.pe_optional.specs.Answers.{answer_read_optional_header, count_read_optional_header};
+ghost use Rattle.pe_optional.specs.Optional.{read_of as read_optional_of};
 ghost use Rattle.pe_section.specs.Answers.{answer_read_section_table, count_read_section_table};
-ghost use Rattle.pe_section.specs.Section.{get_row_of, numbers_of as section_numbers};
+ghost use Rattle.pe_section.specs.Section.{get_row_of};
 
-use pe_coff::ReadCoffHeader;
-use pe_dos::{DosHeader, Outcome, ReadDosHeader};
-use pe_header::{Header, OpenHeader};
-use pe_mapping::FindOffset;
-use pe_optional::{ExceptionDirectory, OptionalHeader, OptionalMagic, ReadOptionalHeader};
-use pe_section::{ReadSectionTable, SectionTable};
+use pe_dos::DosHeader;
 
 // The DOS header at `at`: its 30 numbers of two bytes, and the PE pointer.
 #[unsafe(no_mangle)]
@@ -36,14 +31,21 @@ pub extern "C" fn hullsift_read_dos_header(
     pe_pointer: &mut u32,
 ) -> u8
     ensures answer { result ≡ number (answer_read_dos_header (read_dos_of bytes.now at)) }
-    ensures halves { halves.new ≡ halves_of (read_dos_of bytes.now at).header }
-    ensures pointer { pe_pointer.new ≡ (read_dos_of bytes.now at).header.pe_pointer }
+    ensures halves { halves.new ≡ halves_of (header_or_zeros (read_dos_of bytes.now at)) }
+    ensures pointer { pe_pointer.new ≡ (header_or_zeros (read_dos_of bytes.now at)).pe_pointer }
 {
-    let a = pe_dos::read(bytes, at);
-    let header = a.header;
-    *halves = halves_of(header);
-    *pe_pointer = header.pe_pointer;
-    read_dos_header_number(a)
+    match pe_dos::read(bytes, at) {
+        Ok(header) => {
+            *halves = halves_of(header);
+            *pe_pointer = header.pe_pointer;
+            0
+        }
+        Err(k) => {
+            halves.fill(0);
+            *pe_pointer = 0;
+            k.into()
+        }
+    }
 }
 
 // Writes a DOS header at `at`.
@@ -57,8 +59,7 @@ pub extern "C" fn hullsift_write_dos_header(
     ensures answer { result ≡ number (answer_write_bytes (write_dos_of bytes.old at (dos_header_of halves.now pe_pointer))) }
     ensures lent { bytes.new ≡ write_dos_out bytes.old at (dos_header_of halves.now pe_pointer) }
 {
-    let header = dos_header_of(halves, pe_pointer);
-    c_numbers::write_bytes_number(pe_dos::write(bytes, at, header))
+    c_numbers::number(pe_dos::write(bytes, at, dos_header_of(halves, pe_pointer)))
 }
 
 // The COFF header at `at`.
@@ -67,9 +68,7 @@ pub extern "C" fn hullsift_read_coff_header(bytes: &[u8], at: usize, out: &mut [
     ensures answer { result ≡ number (answer_read_coff_header (read_coff_of bytes.now at)) }
     ensures values { out.new ≡ values count_read_coff_header (answer_read_coff_header (read_coff_of bytes.now at)) }
 {
-    let a = pe_coff::read(bytes, at);
-    *out = read_coff_header_values(a);
-    read_coff_header_number(a)
+    c_numbers::store(pe_coff::read(bytes, at), out)
 }
 
 // The needed fields of the optional header at `at`, whose stated size is `size`.
@@ -83,9 +82,7 @@ pub extern "C" fn hullsift_read_optional_header(
     ensures answer { result ≡ number (answer_read_optional_header (read_optional_of bytes.now at size)) }
     ensures values { out.new ≡ values count_read_optional_header (answer_read_optional_header (read_optional_of bytes.now at size)) }
 {
-    let a = pe_optional::read(bytes, at, size);
-    *out = read_optional_header_values(a);
-    read_optional_header_number(a)
+    c_numbers::store(pe_optional::read(bytes, at, size), out)
 }
 
 // What the headers of an image say, all header and section checks made.
@@ -94,9 +91,7 @@ pub extern "C" fn hullsift_pe_open(file: &[u8], out: &mut [u64; 11]) -> u8
     ensures answer { result ≡ number (answer_open_header (open_of file.now)) }
     ensures values { out.new ≡ values count_open_header (answer_open_header (open_of file.now)) }
 {
-    let a = pe_header::open(file);
-    *out = open_header_values(a);
-    open_header_number(a)
+    c_numbers::store(pe_header::open(file), out)
 }
 
 // The row at an index of the section table.
@@ -111,9 +106,7 @@ pub extern "C" fn hullsift_section(
     ensures answer { result ≡ number (answer_read_section_table (get_row_of file.now table count index)) }
     ensures values { out.new ≡ values count_read_section_table (answer_read_section_table (get_row_of file.now table count index)) }
 {
-    let a = pe_section::get_row(file, table, count, index);
-    *out = read_section_table_values(a);
-    read_section_table_number(a)
+    c_numbers::store(pe_section::get_row(file, table, count, index), out)
 }
 
 // The file offset of an address.
@@ -127,10 +120,8 @@ pub extern "C" fn hullsift_find_offset(
     ensures answer { result ≡ number (answer_find_offset (find_offset_of file.now (read_sections_of sections.now) address)) }
     ensures values { out.new ≡ values count_find_offset (answer_find_offset (find_offset_of file.now (read_sections_of sections.now) address)) }
 {
-    let table = c_sections::read_sections(sections);
-    let a = pe_mapping::find_offset(file, table, address);
-    *out = find_offset_values(a);
-    find_offset_number(a)
+    let sections = c_sections::read_sections(sections);
+    c_numbers::store(pe_mapping::find_offset(file, sections, address), out)
 }
 
 fn dos_header_of(halves: &[u16; 30], pe_pointer: u32) -> DosHeader
@@ -159,16 +150,6 @@ fn dos_header_of(halves: &[u16; 30], pe_pointer: u32) -> DosHeader
             halves[27], halves[28], halves[29],
         ],
         pe_pointer,
-    }
-}
-
-fn read_dos_header_number(a: ReadDosHeader) -> u8
-    ensures { result ≡ number (answer_read_dos_header a) }
-{
-    let outcome = a.outcome;
-    match outcome {
-        Outcome::Whole => 0,
-        Outcome::Refused(k) => answer::number(k),
     }
 }
 
@@ -209,173 +190,4 @@ fn halves_of(h: DosHeader) -> [u16; 30]
         b[8],
         b[9],
     ]
-}
-
-fn read_coff_header_number(a: ReadCoffHeader) -> u8
-    ensures { result ≡ number (answer_read_coff_header a) }
-{
-    match a {
-        ReadCoffHeader::Value(_) => 0,
-        ReadCoffHeader::Refused(k) => answer::number(k),
-    }
-}
-
-fn read_coff_header_values(a: ReadCoffHeader) -> [u64; 7]
-    ensures { result ≡ values count_read_coff_header (answer_read_coff_header a) }
-{
-    match a {
-        ReadCoffHeader::Value(h) => [
-            h.machine as u64,
-            h.number_of_sections as u64,
-            h.time_date_stamp as u64,
-            h.pointer_to_symbol_table as u64,
-            h.number_of_symbols as u64,
-            h.size_of_optional_header as u64,
-            h.characteristics as u64,
-        ],
-        ReadCoffHeader::Refused(_) => [0; 7],
-    }
-}
-
-fn read_optional_header_number(a: ReadOptionalHeader) -> u8
-    ensures { result ≡ number (answer_read_optional_header a) }
-{
-    match a {
-        ReadOptionalHeader::Value(_) => 0,
-        ReadOptionalHeader::Refused(k) => answer::number(k),
-    }
-}
-
-fn read_optional_header_values(a: ReadOptionalHeader) -> [u64; 5]
-    ensures { result ≡ values count_read_optional_header (answer_read_optional_header a) }
-{
-    match a {
-        ReadOptionalHeader::Value(h) => optional_values(h),
-        ReadOptionalHeader::Refused(_) => [0; 5],
-    }
-}
-
-fn optional_values(h: OptionalHeader) -> [u64; 5]
-    ensures { result ≡ optional_numbers h }
-{
-    let magic = h.magic;
-    let exceptions = h.exceptions;
-    let directory = directory_values(exceptions);
-    [
-        magic_value(magic),
-        h.file_alignment as u64,
-        h.number_of_directories as u64,
-        directory[0],
-        directory[1],
-    ]
-}
-
-fn magic_value(magic: OptionalMagic) -> u64
-    ensures { result ≡ magic_of magic }
-{
-    match magic {
-        OptionalMagic::Pe32 => 0x10B,
-        OptionalMagic::Pe32Plus => 0x20B,
-    }
-}
-
-fn directory_values(d: ExceptionDirectory) -> [u64; 2]
-    ensures { result ≡ directory_numbers d }
-{
-    match d {
-        ExceptionDirectory::Missing => [0; 2],
-        ExceptionDirectory::Given(d) => [d.virtual_address as u64, d.size as u64],
-    }
-}
-
-fn open_header_number(a: OpenHeader) -> u8
-    ensures { result ≡ number (answer_open_header a) }
-{
-    match a {
-        OpenHeader::Value(_) => 0,
-        OpenHeader::Refused(k) => answer::number(k),
-    }
-}
-
-fn open_header_values(a: OpenHeader) -> [u64; 11]
-    ensures { result ≡ values count_open_header (answer_open_header a) }
-{
-    match a {
-        OpenHeader::Value(h) => header_values(h),
-        OpenHeader::Refused(_) => [0; 11],
-    }
-}
-
-fn header_values(h: Header) -> [u64; 11]
-    ensures { result ≡ header_numbers h }
-{
-    let magic = h.magic;
-    let exceptions = h.exceptions;
-    let directory = directory_values(exceptions);
-    [
-        h.pe_pointer as u64,
-        h.machine as u64,
-        h.number_of_sections as u64,
-        h.optional_offset as u64,
-        h.optional_size as u64,
-        magic_value(magic),
-        h.file_alignment as u64,
-        h.number_of_directories as u64,
-        directory[0],
-        directory[1],
-        h.section_table as u64,
-    ]
-}
-
-fn read_section_table_number(a: ReadSectionTable) -> u8
-    ensures { result ≡ number (answer_read_section_table a) }
-{
-    match a {
-        ReadSectionTable::Value(_) => 0,
-        ReadSectionTable::Refused(k) => answer::number(k),
-    }
-}
-
-fn read_section_table_values(a: ReadSectionTable) -> [u64; 10]
-    ensures { result ≡ values count_read_section_table (answer_read_section_table a) }
-{
-    match a {
-        ReadSectionTable::Value(h) => section_values(h),
-        ReadSectionTable::Refused(_) => [0; 10],
-    }
-}
-
-fn section_values(h: SectionTable) -> [u64; 10]
-    ensures { result ≡ section_numbers h }
-{
-    [
-        h.name,
-        h.virtual_size as u64,
-        h.virtual_address as u64,
-        h.size_of_raw_data as u64,
-        h.pointer_to_raw_data as u64,
-        h.pointer_to_relocations as u64,
-        h.pointer_to_linenumbers as u64,
-        h.number_of_relocations as u64,
-        h.number_of_linenumbers as u64,
-        h.characteristics as u64,
-    ]
-}
-
-fn find_offset_number(a: FindOffset) -> u8
-    ensures { result ≡ number (answer_find_offset a) }
-{
-    match a {
-        FindOffset::Value(_) => 0,
-        FindOffset::Refused(k) => answer::number(k),
-    }
-}
-
-fn find_offset_values(a: FindOffset) -> [u64; 1]
-    ensures { result ≡ values count_find_offset (answer_find_offset a) }
-{
-    match a {
-        FindOffset::Value(n) => [n],
-        FindOffset::Refused(_) => [0; 1],
-    }
 }

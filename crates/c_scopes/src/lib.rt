@@ -10,7 +10,7 @@ ghost use Rattle.scope_table.specs.Answers.{answer_count_scopes, answer_read_sco
 ghost use Rattle.scope_table.specs.Handler.{count_at_of, entry_at_of};
 ghost use Rattle.scope_table.specs.Scope.{count_in_of, entry_in_of, read_of, write_out};
 
-use scope_table::{CountScopes, ReadScopeTableEntry, ScopeTableEntry};
+use scope_table::ScopeTableEntry;
 
 // How many entries the table in a handler's data has.
 #[unsafe(no_mangle)]
@@ -18,9 +18,7 @@ pub extern "C" fn hullsift_count_scopes_in(data: &[u8], out: &mut [u64; 1]) -> u
     ensures answer { result ≡ number (answer_count_scopes (count_in_of «data».now)) }
     ensures values { out.new ≡ values count_count_scopes (answer_count_scopes (count_in_of «data».now)) }
 {
-    let a = scope_table::count_in(data);
-    *out = count_scopes_values(a);
-    count_scopes_number(a)
+    c_numbers::store(scope_table::count_in(data), out)
 }
 
 // The entry at an index of that table.
@@ -29,9 +27,7 @@ pub extern "C" fn hullsift_scope_in(data: &[u8], index: usize, out: &mut [u64; 4
     ensures answer { result ≡ number (answer_read_scope_table_entry (entry_in_of «data».now index)) }
     ensures values { out.new ≡ values count_read_scope_table_entry (answer_read_scope_table_entry (entry_in_of «data».now index)) }
 {
-    let a = scope_table::entry_in(data, index);
-    *out = read_scope_table_entry_values(a);
-    read_scope_table_entry_number(a)
+    c_numbers::store(scope_table::entry_in(data, index), out)
 }
 
 // How many entries the table of the unwind info at an offset of the file has.
@@ -40,9 +36,7 @@ pub extern "C" fn hullsift_count_scopes_at(file: &[u8], at: usize, out: &mut [u6
     ensures answer { result ≡ number (answer_count_scopes (count_at_of file.now at)) }
     ensures values { out.new ≡ values count_count_scopes (answer_count_scopes (count_at_of file.now at)) }
 {
-    let a = scope_table::count_at(file, at);
-    *out = count_scopes_values(a);
-    count_scopes_number(a)
+    c_numbers::store(scope_table::count_at(file, at), out)
 }
 
 // The entry at an index of that table.
@@ -51,9 +45,7 @@ pub extern "C" fn hullsift_scope_at(file: &[u8], at: usize, index: usize, out: &
     ensures answer { result ≡ number (answer_read_scope_table_entry (entry_at_of file.now at index)) }
     ensures values { out.new ≡ values count_read_scope_table_entry (answer_read_scope_table_entry (entry_at_of file.now at index)) }
 {
-    let a = scope_table::entry_at(file, at, index);
-    *out = read_scope_table_entry_values(a);
-    read_scope_table_entry_number(a)
+    c_numbers::store(scope_table::entry_at(file, at, index), out)
 }
 
 // The entry at `at`.
@@ -62,9 +54,7 @@ pub extern "C" fn hullsift_read_scope(bytes: &[u8], at: usize, out: &mut [u64; 4
     ensures answer { result ≡ number (answer_read_scope_table_entry (read_of bytes.now at)) }
     ensures values { out.new ≡ values count_read_scope_table_entry (answer_read_scope_table_entry (read_of bytes.now at)) }
 {
-    let a = scope_table::read(bytes, at);
-    *out = read_scope_table_entry_values(a);
-    read_scope_table_entry_number(a)
+    c_numbers::store(scope_table::read(bytes, at), out)
 }
 
 // Writes an entry at `at`.
@@ -86,46 +76,5 @@ pub extern "C" fn hullsift_write_scope(
         handler,
         target,
     };
-    c_numbers::write_bytes_number(scope_table::write(bytes, at, entry))
-}
-
-fn count_scopes_number(a: CountScopes) -> u8
-    ensures { result ≡ number (answer_count_scopes a) }
-{
-    match a {
-        CountScopes::Value(_) => 0,
-        CountScopes::Refused(k) => answer::number(k),
-    }
-}
-
-fn count_scopes_values(a: CountScopes) -> [u64; 1]
-    ensures { result ≡ values count_count_scopes (answer_count_scopes a) }
-{
-    match a {
-        CountScopes::Value(n) => [n as u64],
-        CountScopes::Refused(_) => [0; 1],
-    }
-}
-
-fn read_scope_table_entry_number(a: ReadScopeTableEntry) -> u8
-    ensures { result ≡ number (answer_read_scope_table_entry a) }
-{
-    match a {
-        ReadScopeTableEntry::Value(_) => 0,
-        ReadScopeTableEntry::Refused(k) => answer::number(k),
-    }
-}
-
-fn read_scope_table_entry_values(a: ReadScopeTableEntry) -> [u64; 4]
-    ensures { result ≡ values count_read_scope_table_entry (answer_read_scope_table_entry a) }
-{
-    match a {
-        ReadScopeTableEntry::Value(e) => [
-            e.begin as u64,
-            e.end as u64,
-            e.handler as u64,
-            e.target as u64,
-        ],
-        ReadScopeTableEntry::Refused(_) => [0; 4],
-    }
+    c_numbers::number(scope_table::write(bytes, at, entry))
 }

@@ -10,12 +10,11 @@ use pe_mapping::Sections;
 pub fn read_sections(numbers: &[u64; 3]) -> Sections
     ensures { result ≡ read_sections_of numbers.now }
 {
-    let table = numbers[0] as usize;
-    let count = numbers[1] as usize;
+    let [table, count, alignment] = *numbers;
     Sections {
-        table,
-        count,
-        alignment: small(numbers[2]),
+        table: table as usize,
+        count: count as usize,
+        alignment: small(alignment),
     }
 }
 
@@ -23,8 +22,5 @@ pub fn read_sections(numbers: &[u64; 3]) -> Sections
 pub fn small(n: u64) -> u32
     ensures { result ≡ small_of n }
 {
-    if n < 0x1_0000_0000 {
-        return n as u32;
-    }
-    0
+    u32::try_from(n).unwrap_or(0)
 }

@@ -10,8 +10,8 @@ ghost use Rattle.version_section.specs.Answers.{answer_count_entries, count_coun
 ghost use Rattle.versym.specs.Answers.{answer_read_versym, count_read_versym};
 ghost use Rattle.versym.specs.Versym.{count_of, get_at_of};
 
+use answer::Refusal;
 use version_section::CountEntries;
-use versym::ReadVersym;
 
 // How many symbol entries a section has.
 #[unsafe(no_mangle)]
@@ -24,9 +24,7 @@ pub extern "C" fn hullsift_count_versym(
     ensures answer { result ≡ number (answer_count_entries (count_of file.now start size)) }
     ensures values { out.new ≡ values count_count_entries (answer_count_entries (count_of file.now start size)) }
 {
-    let a = versym::count(file, start, size);
-    *out = count_entries_values(a);
-    count_entries_number(a)
+    store_count(versym::count(file, start, size), out)
 }
 
 // The symbol entry at an index.
@@ -42,9 +40,7 @@ pub extern "C" fn hullsift_versym(
     ensures answer { result ≡ number (answer_read_versym (get_at_of big file.now start size index)) }
     ensures values { out.new ≡ values count_read_versym (answer_read_versym (get_at_of big file.now start size index)) }
 {
-    let a = versym::get_at(file, start, size, index, big);
-    *out = read_versym_values(a);
-    read_versym_number(a)
+    c_numbers::store(versym::get_at(file, start, size, index, big), out)
 }
 
 // The definitions of a section.
@@ -62,9 +58,10 @@ pub extern "C" fn hullsift_verdefs(
     ensures values { count.new ≡ values count_count_entries (answer_count_entries (definitions_of big file.now start size stated list.old)) }
     ensures lent { list.new ≡ definitions_out big file.now start size stated list.old }
 {
-    let a = verdef::definitions(file, start, size, stated, big, list);
-    *count = count_entries_values(a);
-    count_entries_number(a)
+    store_count(
+        verdef::definitions(file, start, size, stated, big, list),
+        count,
+    )
 }
 
 // The needs of a section.
@@ -82,9 +79,7 @@ pub extern "C" fn hullsift_verneeds(
     ensures values { count.new ≡ values count_count_entries (answer_count_entries (needs_of big file.now start size stated list.old)) }
     ensures lent { list.new ≡ needs_out big file.now start size stated list.old }
 {
-    let a = verneed::needs(file, start, size, stated, big, list);
-    *count = count_entries_values(a);
-    count_entries_number(a)
+    store_count(verneed::needs(file, start, size, stated, big, list), count)
 }
 
 // The auxiliaries of a definition.
@@ -104,9 +99,10 @@ pub extern "C" fn hullsift_verdauxs(
     ensures values { count.new ≡ values count_count_entries (answer_count_entries (definition_auxiliaries_of big file.now start size place aux cnt list.old)) }
     ensures lent { list.new ≡ definition_auxiliaries_out big file.now start size place aux cnt list.old }
 {
-    let a = verdef::auxiliaries(file, start, size, place, aux, cnt, big, list);
-    *count = count_entries_values(a);
-    count_entries_number(a)
+    store_count(
+        verdef::auxiliaries(file, start, size, place, aux, cnt, big, list),
+        count,
+    )
 }
 
 // The auxiliaries of a need.
@@ -126,45 +122,29 @@ pub extern "C" fn hullsift_vernauxs(
     ensures values { count.new ≡ values count_count_entries (answer_count_entries (need_auxiliaries_of big file.now start size place aux cnt list.old)) }
     ensures lent { list.new ≡ need_auxiliaries_out big file.now start size place aux cnt list.old }
 {
-    let a = verneed::auxiliaries(file, start, size, place, aux, cnt, big, list);
-    *count = count_entries_values(a);
-    count_entries_number(a)
+    store_count(
+        verneed::auxiliaries(file, start, size, place, aux, cnt, big, list),
+        count,
+    )
 }
 
-fn count_entries_number(a: CountEntries) -> u8
-    ensures { result ≡ number (answer_count_entries a) }
+// The same as `c_numbers::store`, of an answer that may be a list that ends at bad bytes.
+fn store_count(a: Result<CountEntries, Refusal>, count: &mut [u64; 1]) -> u8
+    ensures answer { result ≡ number (answer_count_entries a) }
+    ensures values { count.new ≡ values count_count_entries (answer_count_entries a) }
 {
     match a {
-        CountEntries::Whole(_) => 0,
-        CountEntries::Cut(_) => 1,
-        CountEntries::Refused(k) => answer::number(k),
-    }
-}
-
-fn count_entries_values(a: CountEntries) -> [u64; 1]
-    ensures { result ≡ values count_count_entries (answer_count_entries a) }
-{
-    match a {
-        CountEntries::Whole(n) => [n as u64],
-        CountEntries::Cut(n) => [n as u64],
-        CountEntries::Refused(_) => [0; 1],
-    }
-}
-
-fn read_versym_number(a: ReadVersym) -> u8
-    ensures { result ≡ number (answer_read_versym a) }
-{
-    match a {
-        ReadVersym::Value(_) => 0,
-        ReadVersym::Refused(k) => answer::number(k),
-    }
-}
-
-fn read_versym_values(a: ReadVersym) -> [u64; 2]
-    ensures { result ≡ values count_read_versym (answer_read_versym a) }
-{
-    match a {
-        ReadVersym::Value(e) => [c_numbers::bit(e.hidden), e.version as u64],
-        ReadVersym::Refused(_) => [0; 2],
+        Ok(CountEntries::Whole(n)) => {
+            *count = [n as u64];
+            0
+        }
+        Ok(CountEntries::Cut(n)) => {
+            *count = [n as u64];
+            1
+        }
+        Err(k) => {
+            *count = [0];
+            k.into()
+        }
     }
 }

@@ -1,3 +1,3 @@
--- `Laws` has what proofs of readers cite, `Theorems` that each promise fixes its answer.
-pub mod Laws
+-- `Theorems` says that a promise fixes its answer, `Laws` has what the proofs of readers cite.
 pub mod Theorems
+pub mod Laws

@@ -1,3 +1,2 @@
--- `Next` says what reading at a cursor answers, `Answers` what each answer stands for.
+-- `Next` says what reading at a cursor answers.
 pub mod Next
-pub mod Answers

@@ -2,9 +2,8 @@
 #![tactic(auto)]
 
 use answer::Refusal;
-use fat::OpenFat;
-use fat_member::{FatArch, ReadFatArch};
-use fields::{ReadU16, ReadU32};
+use fat_member::FatArch;
+use fields::Unsigned;
 use std::env::FillError;
 use std::fs::File;
 use std::io::{ErrorKind, Read, Seek, SeekFrom};
@@ -15,106 +14,51 @@ use std::{io, str};
 // The longest file that is read, in bytes.
 const MOST: u64 = 268435456;
 
-// What is printed, by the first bytes: the magic of a fat Mach-O file, or the signature of a DOS header.
-fn put_file(rt: &impl Print, s: &[u8], out: &mut [u8; 65536], at: usize) -> io::Result<usize> {
-    if let ReadU32::Value(magic) = fields::read_u32(s, 0, true) {
-        if magic == 0xCAFEBABE {
-            return put_fat(rt, s, out, at);
-        }
+// The first bytes of a fat Mach-O file, and of a DOS header.
+const FAT_MAGIC: u32 = 0xCAFEBABE;
+
+const DOS_SIGNATURE: u16 = 0x5A4D;
+
+// All that is said of a file, by its bytes.
+fn report(rt: &impl Print, s: &[u8]) -> io::Result<()> {
+    println!(rt; "bytes {}", s.len())?;
+    if u32::read(s, 0, true) == Ok(FAT_MAGIC) {
+        report_fat(rt, s)
+    } else if u16::read(s, 0, false) == Ok(DOS_SIGNATURE) {
+        println!(rt; "DOS or PE, by its signature")
+    } else {
+        println!(rt; "neither fat Mach-O nor PE, by its first bytes")
     }
-    if let ReadU16::Value(signature) = fields::read_u16(s, 0, false) {
-        if signature == 0x5A4D {
-            return text::put(rt, out, at, b"DOS or PE, by its signature\n");
+}
+
+fn report_fat(rt: &impl Print, s: &[u8]) -> io::Result<()> {
+    println!(rt; "fat Mach-O")?;
+    match fat::open(s) {
+        Ok(count) => {
+            println!(rt; "members {count}")?;
+            for index in 0..count {
+                match fat::member_at(s, index as usize) {
+                    Ok(member) => report_member(rt, index, member)?,
+                    Err(refusal) => report_refusal(rt, refusal)?,
+                }
+            }
+            Ok(())
         }
+        Err(refusal) => report_refusal(rt, refusal),
     }
-    text::put(
-        rt,
-        out,
-        at,
-        b"neither fat Mach-O nor PE, by its first bytes\n",
+}
+
+fn report_member(rt: &impl Print, index: u32, member: FatArch) -> io::Result<()> {
+    let bits = if member.is_64 { " 64-bit" } else { "" };
+    println!(rt;
+        "member {index}: cputype 0x{:08x} cpusubtype 0x{:06x} capabilities 0x{:02x} offset {} size {} align 2^{}{bits}",
+        member.cputype, member.cpusubtype, member.caps, member.offset, member.size, member.align
     )
 }
 
 // A refusal, by its number and in words.
-fn put_refusal(rt: &impl Print, out: &mut [u8; 65536], at: usize, k: Refusal) -> io::Result<usize> {
-    let number = answer::number(k);
-    let row = answer::words(number);
-    let mut end = text::put(rt, out, at, b"refused ")?;
-    end = text::put_decimal(rt, out, end, number as u64)?;
-    end = text::put(rt, out, end, b": ")?;
-    end = text::put_trimmed(rt, out, end, &row)?;
-    text::put_byte(rt, out, end, b'\n')
-}
-
-fn put_fat(rt: &impl Print, s: &[u8], out: &mut [u8; 65536], at: usize) -> io::Result<usize> {
-    let end = text::put(rt, out, at, b"fat Mach-O\n")?;
-    let count = match fat::open(s) {
-        OpenFat::Value(n) => n,
-        OpenFat::Refused(k) => return put_refusal(rt, out, end, k),
-    };
-    let first = text::put(rt, out, end, b"members ")?;
-    let second = text::put_decimal(rt, out, first, count as u64)?;
-    let last = text::put_byte(rt, out, second, b'\n')?;
-    put_members(rt, s, count, out, last)
-}
-
-fn put_members(
-    rt: &impl Print,
-    s: &[u8],
-    count: u32,
-    out: &mut [u8; 65536],
-    at: usize,
-) -> io::Result<usize> {
-    let mut end = at;
-    for i in 0..count {
-        end = match fat::member_at(s, i as usize) {
-            ReadFatArch::Value(m) => put_member(rt, m, i, out, end)?,
-            ReadFatArch::Refused(k) => put_refusal(rt, out, end, k)?,
-        };
-    }
-    Ok(end)
-}
-
-fn put_member(
-    rt: &impl Print,
-    m: FatArch,
-    i: u32,
-    out: &mut [u8; 65536],
-    at: usize,
-) -> io::Result<usize> {
-    let mut end = text::put(rt, out, at, b"member ")?;
-    end = text::put_decimal(rt, out, end, i as u64)?;
-    end = text::put(rt, out, end, b": cputype 0x")?;
-    end = text::put_hex(rt, out, end, m.cputype as u64, 8)?;
-    end = text::put(rt, out, end, b" cpusubtype 0x")?;
-    end = text::put_hex(rt, out, end, m.cpusubtype as u64, 6)?;
-    end = text::put(rt, out, end, b" capabilities 0x")?;
-    end = text::put_hex(rt, out, end, m.caps as u64, 2)?;
-    put_place(rt, m, out, end)
-}
-
-fn put_place(rt: &impl Print, m: FatArch, out: &mut [u8; 65536], at: usize) -> io::Result<usize> {
-    let mut end = text::put(rt, out, at, b" offset ")?;
-    end = text::put_decimal(rt, out, end, m.offset)?;
-    end = text::put(rt, out, end, b" size ")?;
-    end = text::put_decimal(rt, out, end, m.size)?;
-    end = text::put(rt, out, end, b" align 2^")?;
-    end = text::put_decimal(rt, out, end, m.align as u64)?;
-    if m.is_64 {
-        return text::put(rt, out, end, b" 64-bit\n");
-    }
-    text::put_byte(rt, out, end, b'\n')
-}
-
-// All that is said of a file, by its bytes.
-fn report(rt: &impl Print, s: &[u8]) -> io::Result<()> {
-    let mut out = [0u8; 65536];
-    let mut at: usize = 0;
-    at = text::put(rt, &mut out, at, b"bytes ")?;
-    at = text::put_decimal(rt, &mut out, at, s.len() as u64)?;
-    at = text::put_byte(rt, &mut out, at, b'\n')?;
-    at = put_file(rt, s, &mut out, at)?;
-    text::flush(rt, &out, at)
+fn report_refusal(rt: &impl Print, refusal: Refusal) -> io::Result<()> {
+    println!(rt; "refused {}: {refusal}", u8::from(refusal))
 }
 
 // A line on standard error, and the status of a program that failed.

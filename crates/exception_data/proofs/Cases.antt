@@ -1,5 +1,7 @@
 -- The definitions on small images, by computation.
 -- Assumes nothing.
+use Rattle.std.specs.Prelude.{Result, Ok, Err}
+use Rattle.answer.specs.declared.Refusal.{Refusal}
 use mathlib.Core.Path.{◌≡◌, refl}
 use mathlib.Core.List.{List, [], ◌∷◌, ◌++◌}
 use mathlib.Core.Bool.{false}
@@ -11,7 +13,6 @@ use Rattle.fields.specs.Number.{number_at, bytes_of}
 use Rattle.fields.specs.Field.{read_of as field_of}
 use Rattle.layout.specs.Layout.{read_by, numbers_at, write_by}
 use Rattle.runtime_function.specs.RuntimeFunction.{runtime_function, read_of as found_at}
-use Rattle.runtime_function.specs.declared.ReadRuntimeFunction.TheVariants as found
 use Rattle.pe_dos.specs.Dos.{read_of as dos_at}
 use Rattle.pe_coff.specs.Coff.{read_of as coff_at}
 use Rattle.pe_optional.specs.Optional.{needed, fields_at, read_of as optional_at}
@@ -23,8 +24,6 @@ use Rattle.runtime_table.specs.Check.{check_of}
 use Rattle.exception_data.specs.Exception.{open_of, get_function_of}
 use Rattle.exception_data.specs.declared.RecordForm.TheVariants.{X64}
 use Rattle.exception_data.specs.declared.ExceptionData.{ExceptionData}
-use Rattle.exception_data.specs.declared.OpenExceptionData.{OpenExceptionData}
-use Rattle.exception_data.specs.declared.OpenExceptionData.TheVariants.{Value, Refused}
 
 -- 64 bytes of DOS header, the signature and the COFF header: an image for the machine `m`, with one section
 abbrev front : ℕ → List ℕ
@@ -66,28 +65,28 @@ abbrev opened : ℕ → ℕ → ExceptionData
 opened table count = record { form = X64; table = table; count = count; sections = record { table = 232; count = 1; alignment = 512 } }
 
 -- what opening answers, and what it is to answer
-abbrev openings : List (OpenExceptionData × OpenExceptionData)
+abbrev openings : List (Result ExceptionData Refusal × Result ExceptionData Refusal)
 openings =
-    (open_of (image 0x8664 4 4096 24 32), Value (opened 272 2))
+    (open_of (image 0x8664 4 4096 24 32), Ok (opened 272 2))
     -- a directory of size 0 at an address that maps is a table of no records, also where it maps past the file
-    ∷ (open_of (image 0x8664 4 4096 0 32), Value (opened 272 0))
-    ∷ (open_of (image 0x8664 4 4396 0 32), Value (opened 572 0))
+    ∷ (open_of (image 0x8664 4 4096 0 32), Ok (opened 272 0))
+    ∷ (open_of (image 0x8664 4 4396 0 32), Ok (opened 572 0))
     -- a section row that is not whole is 1, before another machine is 15
-    ∷ (open_of (take 271 (image 0xAA64 4 4096 24 32)), Refused (refuse_of short))
+    ∷ (open_of (take 271 (image 0xAA64 4 4096 24 32)), Err (refuse_of short))
     -- another machine is 15, before too few directories are 10
-    ∷ (open_of (image 0xAA64 3 4096 24 32), Refused (refuse_of machine))
+    ∷ (open_of (image 0xAA64 3 4096 24 32), Err (refuse_of machine))
     -- three directories; and an address and a size that are both 0, before the size is looked at
-    ∷ (open_of (image 0x8664 3 4096 24 32), Refused (refuse_of not_found))
-    ∷ (open_of (image 0x8664 4 0 0 32), Refused (refuse_of not_found))
+    ∷ (open_of (image 0x8664 3 4096 24 32), Err (refuse_of not_found))
+    ∷ (open_of (image 0x8664 4 0 0 32), Err (refuse_of not_found))
     -- a size that is no multiple of 12 is 4, before an address in no section is 5
-    ∷ (open_of (image 0x8664 4 16 13 32), Refused (refuse_of contradiction))
+    ∷ (open_of (image 0x8664 4 16 13 32), Err (refuse_of contradiction))
     -- an address of 0 is an address like any other where the size is not 0
-    ∷ (open_of (image 0x8664 4 0 24 32), Refused (refuse_of no_section))
+    ∷ (open_of (image 0x8664 4 0 24 32), Err (refuse_of no_section))
     -- the file offset, 274, is no multiple of 4
-    ∷ (open_of (image 0x8664 4 4098 12 32), Refused (refuse_of no_section))
+    ∷ (open_of (image 0x8664 4 4098 12 32), Err (refuse_of no_section))
     -- a table that reaches past the file is 1, before records that share an address are 9
-    ∷ (open_of (image 0x8664 4 4096 36 33), Refused (refuse_of short))
-    ∷ (open_of (image 0x8664 4 4096 24 33), Refused (refuse_of order))
+    ∷ (open_of (image 0x8664 4 4096 36 33), Err (refuse_of short))
+    ∷ (open_of (image 0x8664 4 4096 24 33), Err (refuse_of order))
     ∷ []
 
 abbrev firsts : {A B : Type 0} → List (A × B) → List A
@@ -104,14 +103,14 @@ unfolding open_of must open_header_of pointer_in dos_at coff_in coff_at optional
 all_open_so = refl
 
 -- the record at an index of the two
-second : get_function_of (records 32) (opened 0 2) 1 ≡ found.Value (record { begin = 32; end = 48; unwind = 8192 })
+second : get_function_of (records 32) (opened 0 2) 1 ≡ Ok (record { begin = 32; end = 48; unwind = 8192 })
 unfolding get_function_of must get_entry_of found_at read_by number_at write_by bytes_of
 second = refl
 
-index_at_the_count : get_function_of (records 32) (opened 0 1) 1 ≡ found.Refused (refuse_of not_found)
+index_at_the_count : get_function_of (records 32) (opened 0 1) 1 ≡ Err (refuse_of not_found)
 unfolding get_function_of must write_by bytes_of
 index_at_the_count = refl
 
-third_of_four : get_function_of (records 32) (opened 0 4) 2 ≡ found.Refused (refuse_of short)
+third_of_four : get_function_of (records 32) (opened 0 4) 2 ≡ Err (refuse_of short)
 unfolding get_function_of must get_entry_of found_at read_by write_by bytes_of cut_of
 third_of_four = refl

@@ -2,25 +2,35 @@
 #![tactic(auto)]
 
 ghost use Rattle.std.specs.Prelude.{◌≡◌};
+ghost use Rattle.exception_data.specs.Answers.{machine_of, numbers_of};
 ghost use Rattle.exception_data.specs.Exception.{empty_of, open_of, get_function_of};
 
-use answer::{Reason, Refusal};
-use pe_header::OpenHeader;
-use pe_mapping::{FindOffset, Sections};
-use pe_optional::{DataDirectory, ExceptionDirectory};
-use runtime_function::ReadRuntimeFunction;
-use runtime_table::CheckTable;
+use answer::{Numbers, Reason, Refusal};
+use pe_mapping::Sections;
+use pe_optional::DataDirectory;
+use runtime_function::RuntimeFunction;
 
 const X64: u16 = 0x8664;
 
 // The form of a table's records.
-#[derive(Clone, Copy)]
+#[derive(Clone, Copy, Debug, PartialEq, Eq)]
 pub enum RecordForm {
     X64,
 }
 
+// The number of its machine.
+impl From<RecordForm> for u64 {
+    ghost from_gives = { λ form n. n ≡ machine_of form };
+
+    fn from(form: RecordForm) -> u64 {
+        match form {
+            RecordForm::X64 => X64.into(),
+        }
+    }
+}
+
 // An opened table: where it is, how many records it has, and what mapping needs.
-#[derive(Clone, Copy)]
+#[derive(Clone, Copy, Debug, PartialEq, Eq)]
 pub struct ExceptionData {
     pub form: RecordForm,
     pub table: usize,
@@ -28,81 +38,78 @@ pub struct ExceptionData {
     pub sections: Sections,
 }
 
-#[derive(Clone, Copy)]
-pub enum OpenExceptionData {
-    Value(ExceptionData),
-    Refused(Refusal),
+impl Numbers<6> for ExceptionData {
+    ghost numbers = { numbers_of };
+
+    fn numbers(self) -> [u64; 6] {
+        [
+            self.form.into(),
+            self.table as u64,
+            self.count as u64,
+            self.sections.table as u64,
+            self.sections.count as u64,
+            self.sections.alignment.into(),
+        ]
+    }
 }
 
-pub fn open(file: &[u8]) -> OpenExceptionData
+pub fn open(file: &[u8]) -> Result<ExceptionData, Refusal>
     ensures { result ≡ open_of file.now }
 {
-    let h = match pe_header::open(file) {
-        OpenHeader::Value(h) => h,
-        OpenHeader::Refused(k) => return OpenExceptionData::Refused(k),
-    };
+    let h = pe_header::open(file)?;
     if h.machine != X64 {
-        return OpenExceptionData::Refused(answer::refuse(Reason::Machine));
+        return Err(Reason::Machine.into());
     }
-    let exceptions = h.exceptions;
-    let d = match exceptions {
-        ExceptionDirectory::Given(d) => d,
-        ExceptionDirectory::Missing => {
-            return OpenExceptionData::Refused(answer::refuse(Reason::NotFound));
-        }
+    let Some(d) = h.exceptions else {
+        return Err(Reason::NotFound.into());
     };
     if is_empty(d) {
-        return OpenExceptionData::Refused(answer::refuse(Reason::NotFound));
+        return Err(Reason::NotFound.into());
     }
     let size = d.size as usize;
     if size % runtime_function::SIZE != 0 {
-        return OpenExceptionData::Refused(answer::refuse(Reason::Contradiction));
+        return Err(Reason::Contradiction.into());
     }
     let sections = Sections {
         table: h.section_table,
         count: h.number_of_sections,
         alignment: h.file_alignment,
     };
-    let address = d.virtual_address as u64;
-    let offset = match pe_mapping::find_offset(file, sections, address) {
-        FindOffset::Value(offset) => offset,
-        FindOffset::Refused(k) => return OpenExceptionData::Refused(k),
-    };
+    let offset = pe_mapping::find_offset(file, sections, d.virtual_address.into())?;
     if offset % 4 != 0 {
-        return OpenExceptionData::Refused(answer::refuse(Reason::NoSection));
+        return Err(Reason::NoSection.into());
     }
     let table = offset as usize;
     let count = size / runtime_function::SIZE;
-    match runtime_table::check(file, table, count) {
-        CheckTable::Ordered => OpenExceptionData::Value(ExceptionData {
-            form: RecordForm::X64,
-            table,
-            count,
-            sections,
-        }),
-        CheckTable::Refused(k) => OpenExceptionData::Refused(k),
-    }
+    runtime_table::check(file, table, count)?;
+    Ok(ExceptionData {
+        form: RecordForm::X64,
+        table,
+        count,
+        sections,
+    })
 }
 
 // The record at an index of an opened table.
-pub fn get_function(file: &[u8], opened: ExceptionData, index: usize) -> ReadRuntimeFunction
+pub fn get_function(
+    file: &[u8],
+    opened: ExceptionData,
+    index: usize,
+) -> Result<RuntimeFunction, Refusal>
     ensures { result ≡ get_function_of file.now opened index }
 {
     if answer::FILE_LIMIT < file.len() {
-        return ReadRuntimeFunction::Refused(answer::refuse(Reason::Limit));
+        return Err(Reason::Limit.into());
     }
     if index < opened.count {
         return runtime_table::get_entry(file, opened.table, index);
     }
-    ReadRuntimeFunction::Refused(answer::refuse(Reason::NotFound))
+    Err(Reason::NotFound.into())
 }
 
 // Whether the directory's address and size are both 0.
 fn is_empty(d: DataDirectory) -> bool
     ensures { result ≡ empty_of d }
 {
-    if d.virtual_address == 0 {
-        return d.size == 0;
-    }
-    false
+    d.virtual_address == 0 && d.size == 0
 }

@@ -1,5 +1,7 @@
 -- The laws of `specs/Fat.antt`: a law for each way that an answer comes about, and what an answer tells.
 -- Assumes nothing.
+use Rattle.std.specs.Prelude.{Result, Ok, Err, ℕ}
+use Rattle.answer.specs.Answer.{on_ok, refuse_of, magic, limit, not_found}
 use mathlib.Core.Path.{◌≡◌, refl, sym, ap, ◌∙◌}
 use mathlib.Core.List.{List, [], ◌∷◌}
 use mathlib.Core.Bool.{true}
@@ -7,10 +9,9 @@ use mathlib.Core.Logic.{⊎_elim}
 use Prim.Native.Nat.{ℕ, zero, suc, ◌+◌, ◌*◌, ◌-◌, ◌≤◌, ◌<◌}
 use native.Mathlib.Nat.{not-suc-le-zero, le_of_suc-le-suc}
 use native.Mathlib.Omega.{arith}
-use lib.ListN.{length, take, drop}
+use lib.ListN.{length}
 use lib.Dec.{leb, eqb}
 use borrow.Author.Tests.{le-leb, lt-leb, leb-true, eq-eqb, ne_eqb, eqb-true}
-use Rattle.answer.specs.Answer.{refuse_of, magic, limit, not_found}
 use Rattle.answer.specs.Test.{file_limit}
 use Rattle.answer.specs.declared.Refusal.{Refusal}
 use Rattle.answer.proofs.Laws.{must_on, must_off}
@@ -20,83 +21,77 @@ use Rattle.layout.specs.Layout.{Field, bytes_in, numbers_at}
 use Rattle.layout.proofs.Laws.{missed_at, full_is}
 use Rattle.layout.proofs.Theorems.{reads}
 use Rattle.fat_member.specs.FatArch.{fat_arch, read_of, Inside}
-use Rattle.fat_member.specs.Answers.{on_read_fat_arch}
 use Rattle.fat_member.specs.declared.FatArch.{FatArch}
-use Rattle.fat_member.specs.declared.ReadFatArch.{ReadFatArch}
-use Rattle.fat_member.specs.declared.ReadFatArch.TheVariants as found
 use Rattle.fat_member.proofs.Laws.{told_must, told_reads, member_inside}
-use Rattle.fat.specs.Fat.{fat_magic, member_limit, header_in, Held, members, refused, more, members_at, held_in, count_of, open_of, nth, nth_of, member_at_of, bytes_at_of, start_of}
-use Rattle.fat.specs.Answers.{on_open_fat}
+use Rattle.fat.specs.Fat.{fat_magic, member_limit, header_in, Held, members, refused, more, members_at, held_in, count_of, open_of, nth, nth_of, member_at_of}
 use Rattle.fat.proofs.Terms.{Header, There}
-use Rattle.fat.specs.declared.OpenFat.{OpenFat}
-use Rattle.fat.specs.declared.OpenFat.TheVariants as opened
 
 -- The header, check by check.
 module _ (s : List ℕ) where
-  pub header_long : {q : Refusal} → file_limit < length s → q ≡ refuse_of limit → opened.Refused q ≡ header_in s
+  pub header_long : {q : Refusal} → file_limit < length s → q ≡ refuse_of limit → Err q ≡ header_in s
   unfolding header_in
-  header_long h e = must_off opened.Refused _ limit _ (lt-leb (length s) file_limit h) e
+  header_long h e = must_off Err _ limit _ (lt-leb (length s) file_limit h) e
 
   module _ (short : length s ≤ file_limit) where
-    pub header_no_magic : {i : ℕ} {q : Refusal} → Missed 4 s i q → i ≡ 0 → opened.Refused q ≡ header_in s
+    pub header_no_magic : {i : ℕ} {q : Refusal} → Missed 4 s i q → i ≡ 0 → Err q ≡ header_in s
     unfolding header_in
     header_no_magic {i} m e =
-        must_on opened.Refused _ limit _ (le-leb (length s) file_limit short)
-        (missed_at true (4 ∷ []) 0 (omega arith) _ opened.Refused s 0 i m (omega arith) (λ z. omega arith))
+        must_on Err _ limit _ (le-leb (length s) file_limit short)
+        (missed_at true (4 ∷ []) 0 (omega arith) _ Err s 0 i m (omega arith) (λ z. omega arith))
 
     pub header_other : {q : Refusal} → 4 ≤ length s → (number_at true 4 s 0 ≡ fat_magic → ⊥) → q ≡ refuse_of magic
-        → opened.Refused q ≡ header_in s
+        → Err q ≡ header_in s
     unfolding header_in numbers_at
     header_other h n e =
-        must_on opened.Refused _ limit _ (le-leb (length s) file_limit short)
+        must_on Err _ limit _ (le-leb (length s) file_limit short)
         (full_is true s _ _ (4 ∷ []) 0 h
-        (must_off opened.Refused _ magic _ (ne_eqb (number_at true 4 s 0) fat_magic n) e))
+        (must_off Err _ magic _ (ne_eqb (number_at true 4 s 0) fat_magic n) e))
 
     module _ (right : number_at true 4 s 0 ≡ fat_magic) where
-      pub header_no_count : {i : ℕ} {q : Refusal} → 4 ≤ length s → Missed 4 s i q → i ≡ 4 → opened.Refused q ≡ header_in s
+      pub header_no_count : {i : ℕ} {q : Refusal} → 4 ≤ length s → Missed 4 s i q → i ≡ 4 → Err q ≡ header_in s
       unfolding header_in numbers_at
       header_no_count {i} h m e =
-          must_on opened.Refused _ limit _ (le-leb (length s) file_limit short)
+          must_on Err _ limit _ (le-leb (length s) file_limit short)
           (full_is true s _ _ (4 ∷ []) 0 h
-          (must_on opened.Refused _ magic _ (eq-eqb (number_at true 4 s 0) fat_magic right)
-          (missed_at true (4 ∷ []) 0 (omega arith) _ opened.Refused s 4 i m (omega arith) (λ z. omega arith))))
+          (must_on Err _ magic _ (eq-eqb (number_at true 4 s 0) fat_magic right)
+          (missed_at true (4 ∷ []) 0 (omega arith) _ Err s 4 i m (omega arith) (λ z. omega arith))))
 
       pub header_many : {q : Refusal} → 8 ≤ length s → member_limit < number_at true 4 s 4 → q ≡ refuse_of limit
-          → opened.Refused q ≡ header_in s
+          → Err q ≡ header_in s
       unfolding header_in numbers_at
       header_many h n e =
-          must_on opened.Refused _ limit _ (le-leb (length s) file_limit short)
+          must_on Err _ limit _ (le-leb (length s) file_limit short)
           (full_is true s _ _ (4 ∷ []) 0 (omega arith)
-          (must_on opened.Refused _ magic _ (eq-eqb (number_at true 4 s 0) fat_magic right)
+          (must_on Err _ magic _ (eq-eqb (number_at true 4 s 0) fat_magic right)
           (full_is true s _ _ (4 ∷ []) 4 h
-          (must_off opened.Refused _ limit _ (lt-leb (number_at true 4 s 4) member_limit n) e))))
+          (must_off Err _ limit _ (lt-leb (number_at true 4 s 4) member_limit n) e))))
 
-      pub header_count : {n : ℕ} → 8 ≤ length s → n ≤ member_limit → n ≡ number_at true 4 s 4 → opened.Value n ≡ header_in s
+      pub header_count : {n : ℕ} → 8 ≤ length s → n ≤ member_limit → n ≡ number_at true 4 s 4 → Ok n ≡ header_in s
       unfolding header_in numbers_at
       header_count {n} h l e =
-          must_on opened.Refused _ limit _ (le-leb (length s) file_limit short)
+          must_on Err _ limit _ (le-leb (length s) file_limit short)
           (full_is true s _ _ (4 ∷ []) 0 (omega arith)
-          (must_on opened.Refused _ magic _ (eq-eqb (number_at true 4 s 0) fat_magic right)
+          (must_on Err _ magic _ (eq-eqb (number_at true 4 s 0) fat_magic right)
           (full_is true s _ _ (4 ∷ []) 4 h
-          (must_on opened.Refused _ limit _ (le-leb (number_at true 4 s 4) member_limit (omega arith)) (ap opened.Value e)))))
+          (must_on Err _ limit _ (le-leb (number_at true 4 s 4) member_limit (omega arith)) (ap Ok e)))))
 
 -- What an accepted header says.
-never : {n : ℕ} {k : Refusal} → opened.Value n ≡ opened.Refused k → ⊥
+never : {n : ℕ} {k : Refusal} → Ok n ≡ Err k → ⊥
 never e = let z : ◌≡◌ {A = ℕ} 0 1 = cc in omega arith
 
-same_count : {n m : ℕ} → opened.Value n ≡ opened.Value m → n ≡ m
+same_count : {n m : ℕ} → ◌≡◌ {A = Result ℕ Refusal} (Ok n) (Ok m) → n ≡ m
 same_count e = cc
 
-pub header_told : (s : List ℕ) (n : ℕ) → opened.Value n ≡ header_in s → Header s n
+pub header_told : (s : List ℕ) (n : ℕ) → Ok n ≡ header_in s → Header s n
 unfolding header_in numbers_at
 header_told s =
-    let P : OpenFat → Type 0 = λ o. (n : ℕ) → opened.Value n ≡ o → Header s n in
-    let refusals : (k : Refusal) → P (opened.Refused k) = λ k n e. absurd (never e) in
-    told_must opened.Refused P refusals (leb (length s) file_limit) limit _
-    (λ a. told_reads opened.Refused P refusals (reads _ _ true (4 ∷ []) s 0)
-    (λ r. told_must opened.Refused P refusals (eqb (number_at true 4 s 0) fat_magic) magic _
-    (λ b. told_reads opened.Refused P refusals (reads _ _ true (4 ∷ []) s 4)
-    (λ q. told_must opened.Refused P refusals (leb (number_at true 4 s 4) member_limit) limit _
+    let P : Result ℕ Refusal → Type 0 = λ o. (n : ℕ) → Ok n ≡ o → Header s n in
+    let refusals : (k : Refusal) → P (Err k) = λ k n e. absurd (never e) in
+    told_must Err P refusals (leb (length s) file_limit) limit _
+    (λ a. told_reads Err P refusals (reads _ _ true (4 ∷ []) s 0)
+    (λ r. told_must Err P refusals (eqb (number_at true 4 s 0) fat_magic) magic _
+    (λ b. told_reads Err P refusals (reads _ _ true (4 ∷ []) s 4)
+    (λ q. told_must Err P refusals (leb (number_at true 4 s 4) member_limit) limit _
     (λ d n e. record {
       short = leb-true (length s) file_limit a;
       room = q (omega arith);
@@ -106,9 +101,9 @@ header_told s =
     })))))
 
 -- The members, one after the other. How many are asked for is what an accepting answer counts.
-abbrev pub counted : ℕ → Held → OpenFat
-counted n (members ms) = opened.Value n
-counted n (refused k) = opened.Refused k
+abbrev pub counted : ℕ → Held → Result ℕ Refusal
+counted n (members ms) = Ok n
+counted n (refused k) = Err k
 
 counted_more : (n : ℕ) (m : FatArch) (h : Held) → counted n (more m h) ≡ counted n h
 counted_more n m (members ms) = refl
@@ -118,10 +113,10 @@ count_more : (n : ℕ) (m : FatArch) (h : Held) → count_of h ≡ counted n h �
 count_more n m (members ms) e = let l : length ms ≡ n = cc in rw l
 count_more n m (refused k) e = refl
 
-count_found : (n : ℕ) (f : ReadFatArch) (h : Held) → count_of h ≡ counted n h
-    → count_of (on_read_fat_arch f refused (λ m. more m h)) ≡ counted (suc n) (on_read_fat_arch f refused (λ m. more m h))
-count_found n (found.Value m) h e = count_more n m h e
-count_found n (found.Refused k) h e = refl
+count_found : (n : ℕ) (f : Result FatArch Refusal) (h : Held) → count_of h ≡ counted n h
+    → count_of (on_ok f refused (λ m. more m h)) ≡ counted (suc n) (on_ok f refused (λ m. more m h))
+count_found n (Ok m) h e = count_more n m h e
+count_found n (Err k) h e = refl
 
 module _ (arch : List Field) (s : List ℕ) where
   count_members : (n at : ℕ) → count_of (members_at arch n s at) ≡ counted n (members_at arch n s at)
@@ -129,20 +124,20 @@ module _ (arch : List Field) (s : List ℕ) where
   count_members zero at = refl
   count_members (suc n) at = count_found n (read_of arch s at) (members_at arch n s (at + bytes_in arch)) (count_members n (at + bytes_in arch))
 
-  pub members_on : (n : ℕ) (at : ℕ) (c : ℕ) {m : FatArch} → 0 < n → found.Value m ≡ read_of arch s at
+  pub members_on : (n : ℕ) (at : ℕ) (c : ℕ) {m : FatArch} → 0 < n → Ok m ≡ read_of arch s at
       → counted c (members_at arch n s at) ≡ counted c (members_at arch (n - 1) s (at + bytes_in arch))
   unfolding members_at
   members_on zero at c h e = absurd (not-suc-le-zero h)
   members_on (suc n) at c {m} h e = let p : suc n - 1 ≡ n = omega arith in rw (← e, p)
       (counted_more c m (members_at arch n s (at + bytes_in arch)))
 
-  pub members_stop : (n : ℕ) (at : ℕ) (c : ℕ) {k : Refusal} → 0 < n → found.Refused k ≡ read_of arch s at
-      → counted c (members_at arch n s at) ≡ opened.Refused k
+  pub members_stop : (n : ℕ) (at : ℕ) (c : ℕ) {k : Refusal} → 0 < n → Err k ≡ read_of arch s at
+      → counted c (members_at arch n s at) ≡ Err k
   unfolding members_at
   members_stop zero at c h e = absurd (not-suc-le-zero h)
   members_stop (suc n) at c h e = rw (← e)
 
-  pub members_none : (n : ℕ) (at : ℕ) (c : ℕ) → n ≤ 0 → counted c (members_at arch n s at) ≡ opened.Value c
+  pub members_none : (n : ℕ) (at : ℕ) (c : ℕ) → n ≤ 0 → counted c (members_at arch n s at) ≡ Ok c
   unfolding members_at
   members_none zero at c h = refl
   members_none (suc n) at c h = absurd (not-suc-le-zero h)
@@ -162,20 +157,20 @@ members_after arch s (suc i) n at c h g =
     ∙ (members_on arch s (n - i) (at + i * bytes_in arch) c (omega arith) t.is ∙ rw (e, d))
 
 -- what an accepting list says of its first member and of the others
-record First (f : ReadFatArch) (h : Held) (ms : List FatArch) : Type 0 where
+record First (f : Result FatArch Refusal) (h : Held) (ms : List FatArch) : Type 0 where
   pub first : FatArch
   pub others : List FatArch
-  pub found_first : f ≡ found.Value first
+  pub found_first : f ≡ Ok first
   pub held_others : members others ≡ h
   pub all : ms ≡ first ∷ others
 
-first_of_more : (m : FatArch) (h : Held) {ms : List FatArch} → members ms ≡ more m h → First (found.Value m) h ms
+first_of_more : (m : FatArch) (h : Held) {ms : List FatArch} → members ms ≡ more m h → First (Ok m) h ms
 first_of_more m (members os) e = record { first = m; others = os; found_first = refl; held_others = refl; all = cc }
 first_of_more m (refused k) e = absurd (let z : ◌≡◌ {A = ℕ} 0 1 = cc in omega arith)
 
-first_of_lem : (f : ReadFatArch) (h : Held) {ms : List FatArch} → members ms ≡ on_read_fat_arch f refused (λ m. more m h) → First f h ms
-first_of_lem (found.Value m) h e = first_of_more m h e
-first_of_lem (found.Refused k) h e = absurd (let z : ◌≡◌ {A = ℕ} 0 1 = cc in omega arith)
+first_of_lem : (f : Result FatArch Refusal) (h : Held) {ms : List FatArch} → members ms ≡ on_ok f refused (λ m. more m h) → First f h ms
+first_of_lem (Ok m) h e = first_of_more m h e
+first_of_lem (Err k) h e = absurd (let z : ◌≡◌ {A = ℕ} 0 1 = cc in omega arith)
 
 -- a member of the list is the one that is at its place
 nth_first : (arch : List Field) (s : List ℕ) (at : ℕ) {h : Held} {ms : List FatArch} (i : ℕ) → (r : First (read_of arch s at) h ms) → i <
@@ -194,7 +189,7 @@ nth_go arch s zero at {ms} i e h = let k : ms ≡ [] = cc in let l : i < 0 = rw 
 nth_go arch s (suc n) at {ms} i e h = nth_first arch s at i (first_of_lem (read_of arch s at) (members_at arch n s (at + bytes_in arch)) e) h
     (λ j. nth_go arch s n (at + bytes_in arch) j)
 
-nth_past : (ms : List FatArch) (i : ℕ) → length ms ≤ i → found.Refused (refuse_of not_found) ≡ nth ms i
+nth_past : (ms : List FatArch) (i : ℕ) → length ms ≤ i → Err (refuse_of not_found) ≡ nth ms i
 nth_past [] i h = refl
 nth_past (m ∷ ms) zero h = absurd (not-suc-le-zero h)
 nth_past (m ∷ ms) (suc i) h = nth_past ms i (le_of_suc-le-suc h)
@@ -210,31 +205,31 @@ pub record Listed (h : Held) (n : ℕ) : Type 0 where
   pub held : members list ≡ h
   pub many : n ≡ length list
 
-listed_of : (h : Held) {n : ℕ} → opened.Value n ≡ count_of h → Listed h n
+listed_of : (h : Held) {n : ℕ} → Ok n ≡ count_of h → Listed h n
 listed_of (members ms) e = record { list = ms; held = refl; many = cc }
 listed_of (refused k) e = absurd (let z : ◌≡◌ {A = ℕ} 0 1 = cc in omega arith)
 
-refused_of : (h : Held) {k : Refusal} (i : ℕ) → opened.Refused k ≡ count_of h → found.Refused k ≡ nth_of h i
+refused_of : (h : Held) {k : Refusal} (i : ℕ) → Err k ≡ count_of h → Err k ≡ nth_of h i
 refused_of (members ms) i e = absurd (let z : ◌≡◌ {A = ℕ} 0 1 = cc in omega arith)
 refused_of (refused k) i e = cc
 
 -- what a list says of the header in front of it
-record Headed (o : OpenFat) (on : ℕ → Held) (ms : List FatArch) : Type 0 where
+record Headed (o : Result ℕ Refusal) (on : ℕ → Held) (ms : List FatArch) : Type 0 where
   pub count : ℕ
-  pub header : o ≡ opened.Value count
+  pub header : o ≡ Ok count
   pub held : members ms ≡ on count
 
-headed_of : (o : OpenFat) (on : ℕ → Held) {ms : List FatArch} → members ms ≡ on_open_fat o refused on → Headed o on ms
-headed_of (opened.Value n) on e = record { count = n; header = refl; held = e }
-headed_of (opened.Refused k) on e = absurd (let z : ◌≡◌ {A = ℕ} 0 1 = cc in omega arith)
+headed_of : (o : Result ℕ Refusal) (on : ℕ → Held) {ms : List FatArch} → members ms ≡ on_ok o refused on → Headed o on ms
+headed_of (Ok n) on e = record { count = n; header = refl; held = e }
+headed_of (Err k) on e = absurd (let z : ◌≡◌ {A = ℕ} 0 1 = cc in omega arith)
 
 -- The doors.
 module _ (s : List ℕ) where
-  pub opened_refused : {k : Refusal} → opened.Refused k ≡ header_in s → opened.Refused k ≡ open_of s
+  pub opened_refused : {k : Refusal} → Err k ≡ header_in s → Err k ≡ open_of s
   unfolding open_of held_in
   opened_refused e = rw (← e)
 
-  pub opened_members : {n : ℕ} {x : OpenFat} → opened.Value n ≡ header_in s → x ≡ counted n (members_at fat_arch n s 8) → x ≡ open_of s
+  pub opened_members : {n : ℕ} {x : Result ℕ Refusal} → Ok n ≡ header_in s → x ≡ counted n (members_at fat_arch n s 8) → x ≡ open_of s
   unfolding open_of held_in
   opened_members {n} e f = rw (← e, count_members fat_arch s n 8) f
 
@@ -242,28 +237,28 @@ module _ (s : List ℕ) where
   headed_count : {c n : ℕ} {ms : List FatArch} → members ms ≡ members_at fat_arch c s 8 → n ≡ length ms → n ≡ c
   headed_count {c} {n} {ms} e l = l ∙ same_count (rw (← e) at (count_members fat_arch s c 8))
 
-  pub opened_header : {n : ℕ} → opened.Value n ≡ open_of s → opened.Value n ≡ header_in s
+  pub opened_header : {n : ℕ} → Ok n ≡ open_of s → Ok n ≡ header_in s
   unfolding open_of held_in
   opened_header {n} e =
       let l = listed_of (held_in s) e in
       let r = headed_of (header_in s) (λ c. members_at fat_arch c s 8) l.held in
-      ap opened.Value (headed_count r.held l.many) ∙ sym r.header
+      ap Ok (headed_count r.held l.many) ∙ sym r.header
 
   -- the first member that is refused is the answer; if there is none, it is the count
-  module _ {n : ℕ} (e : opened.Value n ≡ header_in s) (i : ℕ) (g : (j : ℕ) → j < i → There (read_of fat_arch s (8 + j * 20))) where
-    pub opened_stop : {k : Refusal} → i < n → found.Refused k ≡ read_of fat_arch s (8 + i * 20) → opened.Refused k ≡ open_of s
+  module _ {n : ℕ} (e : Ok n ≡ header_in s) (i : ℕ) (g : (j : ℕ) → j < i → There (read_of fat_arch s (8 + j * 20))) where
+    pub opened_stop : {k : Refusal} → i < n → Err k ≡ read_of fat_arch s (8 + i * 20) → Err k ≡ open_of s
     opened_stop h r = opened_members e
         (sym (members_after fat_arch s i n 8 n (omega arith) g ∙ members_stop fat_arch s (n - i) (8 + i * 20) n (omega arith) r))
 
-    pub opened_all : i ≡ n → opened.Value n ≡ open_of s
+    pub opened_all : i ≡ n → Ok n ≡ open_of s
     opened_all h = opened_members e
         (sym (members_after fat_arch s i n 8 n (omega arith) g ∙ members_none fat_arch s (n - i) (8 + i * 20) n (omega arith)))
 
-  pub listed_in : {n : ℕ} → opened.Value n ≡ open_of s → Listed (held_in s) n
+  pub listed_in : {n : ℕ} → Ok n ≡ open_of s → Listed (held_in s) n
   unfolding open_of
   listed_in e = listed_of (held_in s) e
 
-  pub found_refused : {k : Refusal} (i : ℕ) → opened.Refused k ≡ open_of s → found.Refused k ≡ member_at_of s i
+  pub found_refused : {k : Refusal} (i : ℕ) → Err k ≡ open_of s → Err k ≡ member_at_of s i
   unfolding open_of member_at_of
   found_refused i e = refused_of (held_in s) i e
 
@@ -277,21 +272,21 @@ module _ (s : List ℕ) where
   unfolding member_at_of
   found_of_lem i e = rw (← e)
 
-  pub found_at_lem : {n : ℕ} (i at : ℕ) {x : ReadFatArch} → opened.Value n ≡ open_of s → i < n → at ≡ 8 + 20 * i → x ≡ read_of fat_arch s at
+  pub found_at_lem : {n : ℕ} (i at : ℕ) {x : Result FatArch Refusal} → Ok n ≡ open_of s → i < n → at ≡ 8 + 20 * i → x ≡ read_of fat_arch s at
       → x ≡ member_at_of s i
   found_at_lem i at e h p f =
       let l = listed_in e in
       let q : at ≡ 8 + i * 20 = omega arith in
       f ∙ (rw q (listed_at i l.held (rw l.many at h)) ∙ found_of_lem i l.held)
 
-  pub found_there : {n : ℕ} (i : ℕ) → opened.Value n ≡ open_of s → i < n → There (read_of fat_arch s (8 + i * 20))
+  pub found_there : {n : ℕ} (i : ℕ) → Ok n ≡ open_of s → i < n → There (read_of fat_arch s (8 + i * 20))
   found_there i e h =
       let l = listed_in e in
       let k : i < length l.list = rw l.many at h in
       rw (listed_at i l.held k) (nth_there l.list i k)
 
-  pub found_past : {n : ℕ} (i : ℕ) {q : Refusal} → opened.Value n ≡ open_of s → n ≤ i → q ≡ refuse_of not_found
-      → found.Refused q ≡ member_at_of s i
+  pub found_past : {n : ℕ} (i : ℕ) {q : Refusal} → Ok n ≡ open_of s → n ≤ i → q ≡ refuse_of not_found
+      → Err q ≡ member_at_of s i
   found_past i e h f =
       let l = listed_in e in
       rw f (nth_past l.list i (rw l.many at h) ∙ found_of_lem i l.held)
@@ -308,17 +303,5 @@ pub found_inside : (s : List ℕ) (i : ℕ) → Inside s (member_at_of s i)
 unfolding member_at_of
 found_inside s i = held_inside s (held_in s) i (λ ms e l. rw (← listed_at s i e l) (member_inside s (8 + i * 20)))
 
-pub inside_is : (s : List ℕ) {f : ReadFatArch} {m : FatArch} → f ≡ found.Value m → Inside s f → m.offset + m.size ≤ length s
+pub inside_is : (s : List ℕ) {f : Result FatArch Refusal} {m : FatArch} → f ≡ Ok m → Inside s f → m.offset + m.size ≤ length s
 inside_is s is h = rw is at h
-
--- The part that an answer names, of the file at `p`.
-module _ (s : List ℕ) (p : ℕ × ℕ) {f : ReadFatArch} where
-  pub part_is : {m : FatArch} → f ≡ found.Value m
-      → (take (m.offset + m.size - m.offset) (drop m.offset s) ≡ bytes_at_of s f) × ((p.0, m.offset + p.1) ≡ start_of p f)
-  part_is {m} is =
-      let e : m.offset + m.size - m.offset ≡ m.size = omega arith in
-      let d : m.offset + p.1 ≡ p.1 + m.offset = omega arith in
-      rw (is, e, d) (refl, refl)
-
-  pub part_none : {k : Refusal} → f ≡ found.Refused k → ([] ≡ bytes_at_of s f) × ((p.0, 0 + p.1) ≡ start_of p f)
-  part_none is = let d : 0 + p.1 ≡ p.1 = omega arith in rw (is, d) (refl, refl)

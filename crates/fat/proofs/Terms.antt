@@ -1,5 +1,7 @@
 -- The words that the theorems use of a file: its header is right, and a member of it is good.
 -- Assumes nothing.
+use Rattle.std.specs.Prelude.{Result, Ok}
+use Rattle.answer.specs.declared.Refusal.{Refusal}
 use mathlib.Core.Path.{◌≡◌}
 use mathlib.Core.List.{List}
 use mathlib.Core.Bool.{true}
@@ -9,8 +11,6 @@ use Rattle.answer.specs.Test.{file_limit}
 use Rattle.fields.specs.Number.{number_at}
 use Rattle.fat_member.specs.FatArch.{fat_arch, read_of}
 use Rattle.fat_member.specs.declared.FatArch.{FatArch}
-use Rattle.fat_member.specs.declared.ReadFatArch.{ReadFatArch}
-use Rattle.fat_member.specs.declared.ReadFatArch.TheVariants.{Value}
 use Rattle.fat.specs.Fat.{fat_magic, member_limit}
 
 -- the file is not too long, and its header is whole, has the magic, and counts `n` members, no more than the limit
@@ -22,9 +22,9 @@ pub record Header (s : List ℕ) (n : ℕ) : Type 0 where
   pub few : n ≤ member_limit
 
 -- an answer that is a member
-pub record There (f : ReadFatArch) : Type 0 where
+pub record There (f : Result FatArch Refusal) : Type 0 where
   pub member : FatArch
-  pub is : Value member ≡ f
+  pub is : Ok member ≡ f
 
 -- where the fat_arch of that index is
 abbrev pub row_at : ℕ → ℕ

@@ -1,18 +1,14 @@
 -- A fat file: a fat_header, then the fat_archs that it counts, and what each door answers (mach-o/fat.h).
 -- Assumes nothing.
-use Rattle.std.specs.Prelude.{ℕ, zero, suc, ◌+◌, List, [], ◌∷◌, ◌++◌, true, length, take, drop, leb, eqb}
-use Rattle.answer.specs.Answer.{refuse_of, magic, limit, not_found}
+use Rattle.std.specs.Prelude.{Result, Ok, Err, ℕ, zero, suc, ◌+◌, List, [], ◌∷◌, ◌++◌, true, length, take, drop, leb, eqb}
+use Rattle.std.specs.Borrow.{Bor}
+use Rattle.answer.specs.Answer.{on_ok, refuse_of, magic, limit, not_found}
 use Rattle.answer.specs.Test.{must, in_limit}
 use Rattle.answer.specs.declared.Refusal.{Refusal}
 use Rattle.layout.specs.Layout.{Field, field, up_to, after, bytes_in, the, reading}
 use Rattle.fat_member.specs.FatArch.{fat_arch, read_of}
-use Rattle.fat_member.specs.Answers.{on_read_fat_arch}
 use Rattle.fat_member.specs.declared.FatArch.{FatArch}
-use Rattle.fat_member.specs.declared.ReadFatArch.{ReadFatArch}
-use Rattle.fat_member.specs.declared.ReadFatArch.TheVariants as arch
-use Rattle.fat.specs.Answers.{on_open_fat}
-use Rattle.fat.specs.declared.OpenFat.{OpenFat}
-use Rattle.fat.specs.declared.OpenFat.TheVariants.{Value, Refused}
+use Rattle.fat.specs.declared.FatArchBytes.{FatArchBytes}
 
 -- 4.10: offset, width, name
 abbrev pub fat_header : List Field
@@ -27,16 +23,16 @@ abbrev pub member_limit : ℕ
 member_limit = 32
 
 -- 3.1, 5.2, 5.4: how many members the header counts: the file's length (3), the magic (1, 2), then the count (1, 3)
-unfoldable pub header_in : List ℕ → OpenFat
+unfoldable pub header_in : List ℕ → Result ℕ Refusal
 header_in s =
-    in_limit Refused s
-    (reading Refused true (up_to "magic" fat_header) s 0
+    in_limit Err s
+    (reading Err true (up_to "magic" fat_header) s 0
     (λ ns.
-    must Refused (eqb (the fat_header "magic" ns) fat_magic) magic
-    (reading Refused true (after "magic" fat_header) s (bytes_in (up_to "magic" fat_header))
+    must Err (eqb (the fat_header "magic" ns) fat_magic) magic
+    (reading Err true (after "magic" fat_header) s (bytes_in (up_to "magic" fat_header))
     (λ ms.
-    must Refused (leb (the fat_header "nfat_arch" (ns ++ ms)) member_limit) limit
-    (Value (the fat_header "nfat_arch" (ns ++ ms)))))))
+    must Err (leb (the fat_header "nfat_arch" (ns ++ ms)) member_limit) limit
+    (Ok (the fat_header "nfat_arch" (ns ++ ms)))))))
 
 -- what a fat file holds: its members in order, or why it is refused
 pub data Held : Type 0 where
@@ -52,41 +48,48 @@ more m (refused k) = refused k
 unfoldable pub members_at : List Field → ℕ → List ℕ → ℕ → Held
 members_at fs zero s at = members []
 members_at fs (suc n) s at =
-    on_read_fat_arch (read_of fs s at) refused (λ m. more m (members_at fs n s (at + bytes_in fs)))
+    on_ok (read_of fs s at) refused (λ m. more m (members_at fs n s (at + bytes_in fs)))
 
 -- 5.1, 5.10: the file: the header, then the members that it counts
 unfoldable pub held_in : List ℕ → Held
-held_in s = on_open_fat (header_in s) refused (λ n. members_at fat_arch n s (bytes_in fat_header))
+held_in s = on_ok (header_in s) refused (λ n. members_at fat_arch n s (bytes_in fat_header))
 
 -- how many members there are
-abbrev pub count_of : Held → OpenFat
-count_of (members ms) = Value (length ms)
-count_of (refused k) = Refused k
+abbrev pub count_of : Held → Result ℕ Refusal
+count_of (members ms) = Ok (length ms)
+count_of (refused k) = Err k
 
 -- 5.3, 5.10: what opening answers
-unfoldable pub open_of : List ℕ → OpenFat
+unfoldable pub open_of : List ℕ → Result ℕ Refusal
 open_of s = count_of (held_in s)
 
 -- 3.8: the member with that index, from 0 on; at or after the count it is 10
-abbrev pub nth : List FatArch → ℕ → ReadFatArch
-nth [] i = arch.Refused (refuse_of not_found)
-nth (m ∷ ms) zero = arch.Value m
+abbrev pub nth : List FatArch → ℕ → Result FatArch Refusal
+nth [] i = Err (refuse_of not_found)
+nth (m ∷ ms) zero = Ok m
 nth (m ∷ ms) (suc i) = nth ms i
 
-abbrev pub nth_of : Held → ℕ → ReadFatArch
+abbrev pub nth_of : Held → ℕ → Result FatArch Refusal
 nth_of (members ms) i = nth ms i
-nth_of (refused k) i = arch.Refused k
+nth_of (refused k) i = Err k
 
 -- 5.11: what asking for a member answers: the file opens, then the index is looked at
-unfoldable pub member_at_of : List ℕ → ℕ → ReadFatArch
+unfoldable pub member_at_of : List ℕ → ℕ → Result FatArch Refusal
 member_at_of s i = nth_of (held_in s) i
 
 -- 5.12: the bytes of a member; a refusal has none
-abbrev pub bytes_at_of : List ℕ → ReadFatArch → List ℕ
-bytes_at_of s (arch.Value m) = take m.size (drop m.offset s)
-bytes_at_of s (arch.Refused k) = []
+abbrev pub bytes_at_of : List ℕ → Result FatArch Refusal → List ℕ
+bytes_at_of s (Ok m) = take m.size (drop m.offset s)
+bytes_at_of s (Err k) = []
 
 -- 5.12: where they are, from where the file is: `offset` bytes on; with a refusal, where the file starts
-abbrev pub start_of : ℕ × ℕ → ReadFatArch → ℕ × ℕ
-start_of p (arch.Value m) = (p.0, p.1 + m.offset)
-start_of p (arch.Refused k) = p
+abbrev pub start_of : ℕ × ℕ → Result FatArch Refusal → ℕ × ℕ
+start_of p (Ok m) = (p.0, p.1 + m.offset)
+start_of p (Err k) = p
+
+-- 5.11, 5.12: what asking for a member with its bytes answers, by what asking for the member does: the bytes and where they are, of the
+-- lent file
+abbrev pub part_of : Bor (List ℕ) → Result FatArch Refusal → Result FatArchBytes Refusal
+part_of file (Ok m) =
+    Ok (record { arch = m; bytes = record { ref_ptr = start_of file.ref_ptr (Ok m); now = bytes_at_of file.now (Ok m) } })
+part_of file (Err k) = Err k

@@ -1,5 +1,6 @@
 -- The laws of a member: a law for each way that its reading ends, and what an accepted one says.
 -- Assumes nothing.
+use Rattle.std.specs.Prelude.{Result, Ok, Err}
 use mathlib.Core.Path.{◌≡◌, refl, ap, ◌∙◌}
 use mathlib.Core.List.{List, ◌++◌}
 use mathlib.Core.Bool.{Bool, true, false}
@@ -22,8 +23,6 @@ use Rattle.layout.proofs.Theorems.{Reads, reads}
 use Rattle.layout.proofs.Theorems as layout
 use Rattle.fat_member.specs.FatArch.{fat_arch, arch_of, read_of, Inside}
 use Rattle.fat_member.specs.declared.FatArch.{FatArch}
-use Rattle.fat_member.specs.declared.ReadFatArch.{ReadFatArch}
-use Rattle.fat_member.specs.declared.ReadFatArch.TheVariants.{Value, Refused}
 
 -- a number that was taken, by the place that the cursor was at
 pub number_there : {big : Bool} {w : ℕ} {s : List ℕ} {i n next at : ℕ} → Took big w s i n next → i ≡ at → n ≡ number_at big w s at
@@ -49,31 +48,31 @@ module _ (arch : List Field) (s : List ℕ) (at : ℕ) where
   end = the arch "offset" front + the arch "size" front
 
   pub member_no_front : (k : ℕ) → k < length (fronts arch) → {i : ℕ} {q : Refusal} → Missed (get_or (fronts arch) k 0) s i q
-      → i ≡ at + size (take k (fronts arch)) → (0 < k → i ≤ length s) → Refused q ≡ read_of arch s at
+      → i ≡ at + size (take k (fronts arch)) → (0 < k → i ≤ length s) → Err q ≡ read_of arch s at
   unfolding read_of
-  member_no_front k h {i} m e r = missed_at true (fronts arch) k h _ Refused s at i m e r
+  member_no_front k h {i} m e r = missed_at true (fronts arch) k h _ Err s at i m e r
 
   module _ (room : at + size (fronts arch) ≤ length s) where
-    pub member_past : {q : Refusal} → length s < end → q ≡ refuse_of past_file → Refused q ≡ read_of arch s at
+    pub member_past : {q : Refusal} → length s < end → q ≡ refuse_of past_file → Err q ≡ read_of arch s at
     unfolding read_of
-    member_past h e = full_is true s _ _ (fronts arch) at room (must_off Refused _ past_file _ (lt-leb end (length s) h) e)
+    member_past h e = full_is true s _ _ (fronts arch) at room (must_off Err _ past_file _ (lt-leb end (length s) h) e)
 
     module _ (within : end ≤ length s) where
       pub member_no_back : (k : ℕ) → k < length (backs arch) → {i : ℕ} {q : Refusal} → Missed (get_or (backs arch) k 0) s i q
-          → i ≡ at + size (fronts arch) + size (take k (backs arch)) → (0 < k → i ≤ length s) → Refused q ≡ read_of arch s at
+          → i ≡ at + size (fronts arch) + size (take k (backs arch)) → (0 < k → i ≤ length s) → Err q ≡ read_of arch s at
       unfolding read_of
       member_no_back k h {i} m e r =
           full_is true s _ _ (fronts arch) at room
-          (must_on Refused _ past_file _ (le-leb end (length s) within)
-          (missed_at true (backs arch) k h _ Refused s (at + size (fronts arch)) i m e r))
+          (must_on Err _ past_file _ (le-leb end (length s) within)
+          (missed_at true (backs arch) k h _ Err s (at + size (fronts arch)) i m e r))
 
       pub member_whole : {m : FatArch} → at + size (fronts arch) + size (backs arch) ≤ length s → m ≡ arch_of arch (front ++ back)
-          → Value m ≡ read_of arch s at
+          → Ok m ≡ read_of arch s at
       unfolding read_of
       member_whole h e =
           full_is true s _ _ (fronts arch) at room
-          (must_on Refused _ past_file _ (le-leb end (length s) within)
-          (full_is true s _ _ (backs arch) (at + size (fronts arch)) h (ap Value e)))
+          (must_on Err _ past_file _ (le-leb end (length s) within)
+          (full_is true s _ _ (backs arch) (at + size (fronts arch)) h (ap Ok e)))
 
 -- the numbers of the two parts are those of the whole record
 pub numbers_parts : (s : List ℕ) (at : ℕ) → front fat_arch s at ++ back fat_arch s at ≡ numbers_at true (widths fat_arch) s at
@@ -93,16 +92,16 @@ module _ {A : Type 0} (refusal : Refusal → A) (P : A → Type 0) (refusals : (
   told_reads (layout.cut n a b e) h = rw e (refusals (cut_of n))
 
 -- The same of a member.
-pub told_member : (P : ReadFatArch → Type 0) → ((k : Refusal) → P (Refused k)) → (s : List ℕ) (at : ℕ)
-    → (at + 20 ≤ length s → end fat_arch s at ≤ length s → P (Value (arch_of fat_arch (front fat_arch s at ++ back fat_arch s at))))
+pub told_member : (P : Result FatArch Refusal → Type 0) → ((k : Refusal) → P (Err k)) → (s : List ℕ) (at : ℕ)
+    → (at + 20 ≤ length s → end fat_arch s at ≤ length s → P (Ok (arch_of fat_arch (front fat_arch s at ++ back fat_arch s at))))
     → P (read_of fat_arch s at)
 unfolding read_of
 told_member P refusals s at h =
-    let on : List ℕ → ReadFatArch = λ ms. Value (arch_of fat_arch (front fat_arch s at ++ ms)) in
-    told_reads Refused P refusals (reads _ _ true (fronts fat_arch) s at)
-    (λ r. told_must Refused P refusals (leb (end fat_arch s at) (length s)) past_file
-    (reading Refused true (after "size" fat_arch) s (at + 16) on)
-    (λ t. told_reads Refused P refusals (reads on _ true (backs fat_arch) s (at + 16))
+    let on : List ℕ → Result FatArch Refusal = λ ms. Ok (arch_of fat_arch (front fat_arch s at ++ ms)) in
+    told_reads Err P refusals (reads _ _ true (fronts fat_arch) s at)
+    (λ r. told_must Err P refusals (leb (end fat_arch s at) (length s)) past_file
+    (reading Err true (after "size" fat_arch) s (at + 16) on)
+    (λ t. told_reads Err P refusals (reads on _ true (backs fat_arch) s (at + 16))
     (λ q. h (omega (arith, q (omega arith))) (leb-true (end fat_arch s at) (length s) t))))
 
 -- a member that is accepted ends within the file

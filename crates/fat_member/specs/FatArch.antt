@@ -1,13 +1,12 @@
 -- A member of a fat file: the record fat_arch, and the check of where the member ends (mach-o/fat.h; mach/machine.h). The definitions take
 -- the fields of the form as a parameter.
 -- Assumes nothing.
-use Rattle.std.specs.Prelude.{ℕ, ◌+◌, ◌/◌, ◌%◌, ◌≤◌, List, [], ◌∷◌, ◌++◌, true, length, leb, eqb}
+use Rattle.std.specs.Prelude.{Result, Ok, Err, ℕ, ◌+◌, ◌/◌, ◌%◌, ◌≤◌, List, [], ◌∷◌, ◌++◌, true, length, leb, eqb}
+use Rattle.answer.specs.declared.Refusal.{Refusal}
 use Rattle.answer.specs.Answer.{past_file}
 use Rattle.answer.specs.Test.{must}
 use Rattle.layout.specs.Layout.{Field, field, up_to, after, bytes_in, the, reading}
 use Rattle.fat_member.specs.declared.FatArch.{FatArch}
-use Rattle.fat_member.specs.declared.ReadFatArch.{ReadFatArch}
-use Rattle.fat_member.specs.declared.ReadFatArch.TheVariants.{Value, Refused}
 
 -- 4.11: offset, width, name
 abbrev pub fat_arch : List Field
@@ -30,15 +29,15 @@ arch_of arch ns =
 
 -- 4.7, 5.5, 5.6, 5.13: the member at `at` of the file `s`, in a form whose fields are `arch`: it ends within the file, or is 14 before its
 -- align is read; the sum is a number without bound
-unfoldable pub read_of : List Field → List ℕ → ℕ → ReadFatArch
+unfoldable pub read_of : List Field → List ℕ → ℕ → Result FatArch Refusal
 read_of arch s at =
-    reading Refused true (up_to "size" arch) s at
+    reading Err true (up_to "size" arch) s at
     (λ ns.
-    must Refused (leb (the arch "offset" ns + the arch "size" ns) (length s)) past_file
-    (reading Refused true (after "size" arch) s (at + bytes_in (up_to "size" arch))
-    (λ ms. Value (arch_of arch (ns ++ ms)))))
+    must Err (leb (the arch "offset" ns + the arch "size" ns) (length s)) past_file
+    (reading Err true (after "size" arch) s (at + bytes_in (up_to "size" arch))
+    (λ ms. Ok (arch_of arch (ns ++ ms)))))
 
 -- 5.5: the member, if there is one, ends within the file
-abbrev pub Inside : List ℕ → ReadFatArch → Type 0
-Inside s (Value m) = m.offset + m.size ≤ length s
-Inside s (Refused k) = Unit
+abbrev pub Inside : List ℕ → Result FatArch Refusal → Type 0
+Inside s (Ok m) = m.offset + m.size ≤ length s
+Inside s (Err k) = Unit

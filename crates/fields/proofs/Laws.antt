@@ -1,30 +1,23 @@
 -- The laws that the proofs of readers and writers cite, over the width, the order and the answer's type.
 -- Assumes nothing.
 use mathlib.Core.Path.{◌≡◌, refl, sym, ap, ◌∙◌}
-use mathlib.Core.List.{List, [], ◌∷◌, ◌++◌}
+use mathlib.Core.List.{List, [], ◌∷◌, ◌++◌, append_assoc}
 use mathlib.Core.Logic.{◌⊎◌, inl, inr, ⊎_elim}
 use mathlib.Core.Bool.{Bool, true, false}
-use Prim.Native.Nat.{ℕ, suc, ◌+◌, ◌^◌, ◌≤◌, ◌<◌}
-use native.Mathlib.Nat.{add-zero}
+use Prim.Native.Nat.{ℕ, suc, ◌+◌, ◌-◌, ◌^◌, ◌≤◌, ◌<◌}
+use native.Mathlib.Nat.{add-zero, not-suc-le-zero}
 use native.Mathlib.Omega.{arith}
-use lib.ListN.{length, set, length-append}
-use lib.Seq.{sets, sets-eq, length-sets}
+use lib.ListN.{length, set, take, drop, length-append, length-take, length-drop}
+use lib.Seq.{sets, sets-eq, length-sets, take-take, drop-drop}
 use lib.Dec.{leb}
+use borrow.Rule.Slice.PartMut.{put_mid}
 use borrow.Author.Tests.{le-leb, lt-leb, leb-true, leb-false}
+use Rattle.std.specs.Prelude.{Result, Ok, Err}
 use Rattle.answer.specs.Answer.{Answer, accepted, refused, cut_of, refuse_of, room}
 use Rattle.answer.specs.declared.Refusal.{Refusal}
 use Rattle.fields.specs.Number.{number_at, bytes_of, joined}
-use Rattle.fields.specs.Field.{read_of, put, stored, write_of}
-use Rattle.fields.specs.Answers.{answer_read_u8, answer_read_u16, answer_read_u32, answer_read_u64}
-use Rattle.fields.specs.declared.ReadU8.{ReadU8}
-use Rattle.fields.specs.declared.ReadU8.TheVariants as u8
-use Rattle.fields.specs.declared.ReadU16.{ReadU16}
-use Rattle.fields.specs.declared.ReadU16.TheVariants as u16
-use Rattle.fields.specs.declared.ReadU32.{ReadU32}
-use Rattle.fields.specs.declared.ReadU32.TheVariants as u32
-use Rattle.fields.specs.declared.ReadU64.{ReadU64}
-use Rattle.fields.specs.declared.ReadU64.TheVariants as u64
-use Rattle.fields.specs.declared.WriteBytes.TheVariants.{Done, Refused}
+use Rattle.fields.specs.Field.{read_of, bytes_at_of, put, stored, write_of, write_out}
+use Rattle.fields.specs.Answers.{answer_read}
 use Rattle.fields.proofs.Number.{length_bytes, number_joined, bytes_joined, number_one, bytes_one}
 
 by_test : (a b : ℕ) (t : Bool) → leb a b ≡ t → (a ≤ b) ⊎ (b < a)
@@ -92,41 +85,80 @@ found_of_lem p = record { inside = p.0; value = one_value p.1 }
 pub missed_of : {w : ℕ} {s : List ℕ} {at : ℕ} {k : Refusal} → (length s < at + w) × (k ≡ cut_of (at + w)) → Missed w s at k
 missed_of p = record { past = p.0; why = p.1 }
 
-module _ (s : List ℕ) (at : ℕ) {r : ReadU8} (e : r ≡ read_of u8.Value u8.Refused false 1 s at) where
-  pub u8_found : {n : ℕ} → r ≡ u8.Value n → Found false 1 s at n
-  u8_found f = found_of_lem
-      (told_value u8.Value u8.Refused answer_read_u8 (λ n. n ∷ []) (λ n. refl) (λ k. refl) false 1 s at e (ap answer_read_u8 f))
+module _ (big : Bool) (w : ℕ) (s : List ℕ) (at : ℕ) {r : Result ℕ Refusal} (e : r ≡ read_of Ok Err big w s at) where
+  pub found : {n : ℕ} → r ≡ Ok n → Found big w s at n
+  found f = found_of_lem (told_value Ok Err answer_read (λ n. n ∷ []) (λ n. refl) (λ k. refl) big w s at e (ap answer_read f))
 
-  pub u8_missed : {k : Refusal} → r ≡ u8.Refused k → Missed 1 s at k
-  u8_missed f = missed_of
-      (told_cut u8.Value u8.Refused answer_read_u8 (λ n. n ∷ []) (λ n. refl) (λ k. refl) false 1 s at e (ap answer_read_u8 f))
+  pub missed : {k : Refusal} → r ≡ Err k → Missed w s at k
+  missed f = missed_of (told_cut Ok Err answer_read (λ n. n ∷ []) (λ n. refl) (λ k. refl) big w s at e (ap answer_read f))
 
-module _ (big : Bool) (s : List ℕ) (at : ℕ) {r : ReadU16} (e : r ≡ read_of u16.Value u16.Refused big 2 s at) where
-  pub u16_found : {n : ℕ} → r ≡ u16.Value n → Found big 2 s at n
-  u16_found f = found_of_lem
-      (told_value u16.Value u16.Refused answer_read_u16 (λ n. n ∷ []) (λ n. refl) (λ k. refl) big 2 s at e (ap answer_read_u16 f))
+abbrev sees : {A : Type 0} → Result A Refusal → Answer
+sees (Ok x) = accepted []
+sees (Err k) = refused k
 
-  pub u16_missed : {k : Refusal} → r ≡ u16.Refused k → Missed 2 s at k
-  u16_missed f = missed_of
-      (told_cut u16.Value u16.Refused answer_read_u16 (λ n. n ∷ []) (λ n. refl) (λ k. refl) big 2 s at e (ap answer_read_u16 f))
+pub ok_not_err : {A : Type 0} {x : A} {k : Refusal} → ◌≡◌ {A = Result A Refusal} (Ok x) (Err k) → ⊥
+ok_not_err e = never (ap sees e)
 
-module _ (big : Bool) (s : List ℕ) (at : ℕ) {r : ReadU32} (e : r ≡ read_of u32.Value u32.Refused big 4 s at) where
-  pub u32_found : {n : ℕ} → r ≡ u32.Value n → Found big 4 s at n
-  u32_found f = found_of_lem
-      (told_value u32.Value u32.Refused answer_read_u32 (λ n. n ∷ []) (λ n. refl) (λ k. refl) big 4 s at e (ap answer_read_u32 f))
+pub same_ok : {A : Type 0} {x y : A} → ◌≡◌ {A = Result A Refusal} (Ok x) (Ok y) → x ≡ y
+same_ok e = cc
 
-  pub u32_missed : {k : Refusal} → r ≡ u32.Refused k → Missed 4 s at k
-  u32_missed f = missed_of
-      (told_cut u32.Value u32.Refused answer_read_u32 (λ n. n ∷ []) (λ n. refl) (λ k. refl) big 4 s at e (ap answer_read_u32 f))
+pub same_err : {A : Type 0} {k j : Refusal} → ◌≡◌ {A = Result A Refusal} (Err k) (Err j) → k ≡ j
+same_err e = cc
 
-module _ (big : Bool) (s : List ℕ) (at : ℕ) {r : ReadU64} (e : r ≡ read_of u64.Value u64.Refused big 8 s at) where
-  pub u64_found : {n : ℕ} → r ≡ u64.Value n → Found big 8 s at n
-  u64_found f = found_of_lem
-      (told_value u64.Value u64.Refused answer_read_u64 (λ n. n ∷ []) (λ n. refl) (λ k. refl) big 8 s at e (ap answer_read_u64 f))
+-- the same at any type of numbers: whether the field is in the bytes
+module _ {A : Type 0} (of : ℕ → A) (big : Bool) (w : ℕ) (s : List ℕ) (at : ℕ) {r : Result A Refusal}
+    (e : r ≡ read_of (λ n. Ok (of n)) Err big w s at) where
+  pub found_inside : {x : A} → r ≡ Ok x → at + w ≤ length s
+  found_inside f = (told_value (λ n. Ok (of n)) Err sees (λ n. []) (λ n. refl) (λ k. refl) big w s at e (ap sees f)).0
 
-  pub u64_missed : {k : Refusal} → r ≡ u64.Refused k → Missed 8 s at k
-  u64_missed f = missed_of
-      (told_cut u64.Value u64.Refused answer_read_u64 (λ n. n ∷ []) (λ n. refl) (λ k. refl) big 8 s at e (ap answer_read_u64 f))
+  pub missed_past : {k : Refusal} → r ≡ Err k → length s < at + w
+  missed_past f = (told_cut (λ n. Ok (of n)) Err sees (λ n. []) (λ n. refl) (λ k. refl) big w s at e (ap sees f)).0
+
+  pub found_value : {x : A} → r ≡ Ok x → x ≡ of (number_at big w s at)
+  found_value f = same_ok (sym f ∙ e ∙ sym (field_value (λ n. Ok (of n)) Err big w s at (found_inside f) refl))
+
+  pub missed_why : {k : Refusal} → r ≡ Err k → k ≡ cut_of (at + w)
+  missed_why f = same_err (sym f ∙ e ∙ sym (field_cut (λ n. Ok (of n)) Err big w s at (missed_past f) refl))
+
+-- Reading, by the bytes of the field.
+module _ (w : ℕ) (s : List ℕ) (at : ℕ) where
+  pub part_value : {bs : List ℕ} → at + w ≤ length s → bs ≡ take w (drop at s) → Ok bs ≡ bytes_at_of w s at
+  unfolding bytes_at_of
+  part_value h e = rw (le-leb (at + w) (length s) h, e) refl
+
+  pub part_cut : {k : Refusal} → length s < at + w → k ≡ cut_of (at + w) → Err k ≡ bytes_at_of w s at
+  unfolding bytes_at_of
+  part_cut h e = rw (lt-leb (at + w) (length s) h, e) refl
+
+-- what a field whose bytes were found says of them, and of the number that they spell
+module _ (w : ℕ) (s : List ℕ) (at : ℕ) {r : Result (List ℕ) Refusal} (e : r ≡ bytes_at_of w s at) where
+  part_found : {bs : List ℕ} → r ≡ Ok bs → (at + w ≤ length s) × (bs ≡ take w (drop at s))
+  part_found f =
+      ⊎_elim
+      (λ h. (h, same_ok (sym f ∙ e ∙ sym (part_value w s at h refl))))
+      (λ h. absurd (ok_not_err (sym f ∙ e ∙ sym (part_cut w s at h refl))))
+      (le_or_lt (at + w) (length s))
+
+  part_missed : {k : Refusal} → r ≡ Err k → (length s < at + w) × (k ≡ cut_of (at + w))
+  part_missed f =
+      ⊎_elim
+      (λ h. absurd (ok_not_err (part_value w s at h refl ∙ sym e ∙ f)))
+      (λ h. (h, same_err (sym f ∙ e ∙ sym (part_cut w s at h refl))))
+      (le_or_lt (at + w) (length s))
+
+  pub part_length : {bs : List ℕ} → r ≡ Ok bs → length bs ≡ w
+  part_length f =
+      let p = part_found f in
+      ap length p.1 ∙ simp (length-take, length-drop) (omega (arith, p.0))
+
+  pub part_number : (big : Bool) {bs : List ℕ} {n : ℕ} → r ≡ Ok bs → n ≡ number_at big w bs 0 → Ok n ≡ read_of Ok Err big w s at
+  unfolding number_at
+  part_number big f g =
+      let p = part_found f in
+      field_value Ok Err big w s at p.0 (g ∙ rw (p.1, take-take w w (drop at s) (omega arith)) refl)
+
+  pub part_none : (big : Bool) {q : Result ℕ Refusal} {k : Refusal} → r ≡ Err k → q ≡ Err k → q ≡ read_of Ok Err big w s at
+  part_none big f g = let p = part_missed f in g ∙ field_cut Ok Err big w s at p.0 p.1
 
 -- one byte is the same in either order
 pub byte_order : (big : Bool) (s : List ℕ) (at : ℕ) {n : ℕ} → Found false 1 s at n → Found big 1 s at n
@@ -139,6 +171,12 @@ pub halves_found : (big : Bool) (w : ℕ) (s : List ℕ) (at i : ℕ) {a b n : �
 halves_found big w s at i {a} {b} f g e j =
     let h : at + (w + w) ≤ length s = omega (arith, g.inside) in
     record { inside = h; value = j ∙ rw (f.value, g.value, e, number_joined big w s at h) }
+
+-- the one byte that a list has
+pub set_only : (o : List ℕ) (n : ℕ) → length o ≡ 1 → set o 0 n ≡ n ∷ []
+set_only (b ∷ []) n h = refl
+set_only [] n h = absurd (let k : 1 ≤ 0 = omega arith in not-suc-le-zero k)
+set_only (a ∷ b ∷ o) n h = absurd (let k : 1 ≤ 0 = omega arith in not-suc-le-zero k)
 
 -- Putting bytes.
 pub put_sets : (o : List ℕ) (at : ℕ) (bs : List ℕ) → at + length bs ≤ length o → sets o at bs ≡ put o at bs
@@ -184,13 +222,20 @@ put_joined big t et w a b n o l m at i h ha hb en el ei em =
     (bytes_of big w a) (bytes_of big w b) (omega arith) (omega arith) in
     em ∙ rw (el, j, en, ← et, bytes_joined big w a b ha hb)
 
+-- bytes written to a part of a buffer are put where the part begins
+pub put_part : (w : ℕ) (o : List ℕ) (at : ℕ) {bs l : List ℕ} → length bs ≡ w → l ≡ bs → put_mid at (at + w - at) o l ≡ put o at bs
+unfolding put
+put_part w o at {bs} h e =
+    let k : at + w - at ≡ w = omega arith in
+    rw (e, k, h, drop-drop w at o) (sym (append_assoc (take at o) bs (drop (at + w) o)))
+
 -- Storing bytes of a length that the code has tested for.
 module _ (w : ℕ) (o : List ℕ) (at : ℕ) (bs : List ℕ) (lb : length bs ≡ w) where
-  pub store_done : {l : List ℕ} → at + w ≤ length o → l ≡ put o at bs → (Done ≡ write_of w o at) × (l ≡ stored o at bs)
+  pub store_done : {l : List ℕ} → at + w ≤ length o → l ≡ put o at bs → (Ok tt ≡ write_of w o at) × (l ≡ stored o at bs)
   unfolding write_of stored
   store_done h e = rw (lb, le-leb (at + w) (length o) h) (refl, e)
 
-  pub store_refused : {k : Refusal} → length o < at + w → k ≡ refuse_of room → (Refused k ≡ write_of w o at) × (o ≡ stored o at bs)
+  pub store_refused : {k : Refusal} → length o < at + w → k ≡ refuse_of room → (Err k ≡ write_of w o at) × (o ≡ stored o at bs)
   unfolding write_of stored
   store_refused h e = rw (lb, lt-leb (at + w) (length o) h, e) (refl, refl)
 
@@ -198,3 +243,17 @@ module _ (w : ℕ) (o : List ℕ) (at : ℕ) (bs : List ℕ) (lb : length bs ≡
   pub stored_put : {l : List ℕ} → at + w ≤ length o → l ≡ stored o at bs → l ≡ put o at bs
   unfolding stored
   stored_put h e = e ∙ rw (lb, le-leb (at + w) (length o) h)
+
+-- a number that was written as its bytes
+pub written_as : (big : Bool) (w n : ℕ) (o : List ℕ) (at : ℕ) {bs l : List ℕ} {r : Result Unit Refusal} → bs ≡ bytes_of big w n
+    → (r ≡ write_of (length bs) o at) × (l ≡ stored o at bs) → (r ≡ write_of w o at) × (l ≡ write_out big w o at n)
+written_as big w n o at q e =
+    (e.0 ∙ ap (λ k. write_of k o at) (ap length q ∙ length_bytes big w n), e.1 ∙ ap (λ x. stored o at x) q)
+
+-- a write that has room is not refused
+pub not_refused : (w : ℕ) (o : List ℕ) (at : ℕ) {r : Result Unit Refusal} {k : Refusal} → at + w ≤ length o → r ≡ write_of w o at
+    → r ≡ Err k → ⊥
+unfolding write_of
+not_refused w o at h e f =
+    let d : ◌≡◌ {A = Result Unit Refusal} (Ok tt) (write_of w o at) = rw (le-leb (at + w) (length o) h) refl in
+    ok_not_err (d ∙ sym e ∙ f)

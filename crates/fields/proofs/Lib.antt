@@ -1,4 +1,6 @@
--- `Theorems` is what a reader comes for; `Number` has the laws of a number and its bytes, `Laws` what proofs of readers and writers cite.
+-- `Theorems` is what a reader comes for; `Laws` has what proofs of readers and writers cite; `Number` the laws of numbers and bytes; `Bytes`
+-- says that the library's own conversions are these.
+pub mod Theorems
 pub mod Number
 pub mod Laws
-pub mod Theorems
+pub mod Bytes

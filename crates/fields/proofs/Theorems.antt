@@ -9,20 +9,11 @@ use lib.ListN.{length, take, drop, take-append-drop, length-take}
 use lib.Seq.{drop-drop, drop_at}
 use Rattle.answer.proofs.Unique.{same, same_both}
 use Rattle.answer.specs.Answer.{values}
+use Rattle.std.specs.Prelude.{Result, Ok, Err}
 use Rattle.answer.specs.declared.Refusal.{Refusal}
 use Rattle.fields.specs.Number.{number_at, bytes_of, Bytes}
 use Rattle.fields.specs.Field.{fits_of, read_of, put, stored, write_of, write_out}
-use Rattle.fields.specs.declared.ReadU8.{ReadU8}
-use Rattle.fields.specs.declared.ReadU8.TheVariants as u8
-use Rattle.fields.specs.declared.ReadU16.{ReadU16}
-use Rattle.fields.specs.declared.ReadU16.TheVariants as u16
-use Rattle.fields.specs.declared.ReadU32.{ReadU32}
-use Rattle.fields.specs.declared.ReadU32.TheVariants as u32
-use Rattle.fields.specs.declared.ReadU64.{ReadU64}
-use Rattle.fields.specs.declared.ReadU64.TheVariants as u64
-use Rattle.fields.specs.declared.WriteBytes.{WriteBytes}
-use Rattle.fields.specs.declared.WriteBytes.TheVariants as written
-use Rattle.fields.specs.Answers.{answer_read_u8, count_read_u8, answer_read_u16, count_read_u16, answer_read_u32, count_read_u32, answer_read_u64, count_read_u64, answer_write_bytes, count_write_bytes}
+use Rattle.fields.specs.Answers.{answer_read, count_read, answer_write_bytes, count_write_bytes}
 use Rattle.fields.proofs.Number.{length_bytes, number_written, bytes_read}
 use Rattle.fields.proofs.Laws.{field_value, length_put, store_refused, stored_put}
 
@@ -68,24 +59,24 @@ pub stored_refused : (o : List ℕ) (at : ℕ) (bs : List ℕ) → length o < at
 stored_refused o at bs h = sym (store_refused (length bs) o at bs refl h refl).1
 
 -- Two answers that meet a promise of this crate are equal.
-pub read_u8_unique : (s : List ℕ) (at : ℕ) {r q : ReadU8} → r ≡ read_of u8.Value u8.Refused false 1 s at
-    → q ≡ read_of u8.Value u8.Refused false 1 s at → r ≡ q
+pub read_u8_unique : (s : List ℕ) (at : ℕ) {r q : Result ℕ Refusal} → r ≡ read_of Ok Err false 1 s at
+    → q ≡ read_of Ok Err false 1 s at → r ≡ q
 read_u8_unique s at = same
 
-pub read_u16_unique : (s : List ℕ) (at : ℕ) (big : Bool) {r q : ReadU16} → r ≡ read_of u16.Value u16.Refused big 2 s at
-    → q ≡ read_of u16.Value u16.Refused big 2 s at → r ≡ q
+pub read_u16_unique : (s : List ℕ) (at : ℕ) (big : Bool) {r q : Result ℕ Refusal} → r ≡ read_of Ok Err big 2 s at
+    → q ≡ read_of Ok Err big 2 s at → r ≡ q
 read_u16_unique s at big = same
 
-pub read_u32_unique : (s : List ℕ) (at : ℕ) (big : Bool) {r q : ReadU32} → r ≡ read_of u32.Value u32.Refused big 4 s at
-    → q ≡ read_of u32.Value u32.Refused big 4 s at → r ≡ q
+pub read_u32_unique : (s : List ℕ) (at : ℕ) (big : Bool) {r q : Result ℕ Refusal} → r ≡ read_of Ok Err big 4 s at
+    → q ≡ read_of Ok Err big 4 s at → r ≡ q
 read_u32_unique s at big = same
 
-pub read_u64_unique : (s : List ℕ) (at : ℕ) (big : Bool) {r q : ReadU64} → r ≡ read_of u64.Value u64.Refused big 8 s at
-    → q ≡ read_of u64.Value u64.Refused big 8 s at → r ≡ q
+pub read_u64_unique : (s : List ℕ) (at : ℕ) (big : Bool) {r q : Result ℕ Refusal} → r ≡ read_of Ok Err big 8 s at
+    → q ≡ read_of Ok Err big 8 s at → r ≡ q
 read_u64_unique s at big = same
 
 -- of `write_u8`, `write_u16`, `write_u32` and `write_u64`, with w = 1, 2, 4 and 8
-pub write_unique : (w : ℕ) (big : Bool) (n : ℕ) (o : List ℕ) (at : ℕ) {r q : WriteBytes} {l k : List ℕ}
+pub write_unique : (w : ℕ) (big : Bool) (n : ℕ) (o : List ℕ) (at : ℕ) {r q : Result Unit Refusal} {l k : List ℕ}
     → (r ≡ write_of w o at) × (l ≡ write_out big w o at n) → (q ≡ write_of w o at) × (k ≡ write_out big w o at n) → (r ≡ q) × (l ≡ k)
 write_unique w big n o at = same_both
 
@@ -93,22 +84,22 @@ pub fits_unique : (len at width : ℕ) {r q : Bool} → r ≡ fits_of len at wid
 fits_unique len at width = same
 
 -- Each answer has as many numbers as it says, zeros where it is refused.
-pub read_u8_count : (a : ReadU8) → length (values count_read_u8 (answer_read_u8 a)) ≡ count_read_u8
-read_u8_count (u8.Value n) = refl
-read_u8_count (u8.Refused k) = refl
+pub read_u8_count : (a : Result ℕ Refusal) → length (values count_read (answer_read a)) ≡ count_read
+read_u8_count (Ok n) = refl
+read_u8_count (Err k) = refl
 
-pub read_u16_count : (a : ReadU16) → length (values count_read_u16 (answer_read_u16 a)) ≡ count_read_u16
-read_u16_count (u16.Value n) = refl
-read_u16_count (u16.Refused k) = refl
+pub read_u16_count : (a : Result ℕ Refusal) → length (values count_read (answer_read a)) ≡ count_read
+read_u16_count (Ok n) = refl
+read_u16_count (Err k) = refl
 
-pub read_u32_count : (a : ReadU32) → length (values count_read_u32 (answer_read_u32 a)) ≡ count_read_u32
-read_u32_count (u32.Value n) = refl
-read_u32_count (u32.Refused k) = refl
+pub read_u32_count : (a : Result ℕ Refusal) → length (values count_read (answer_read a)) ≡ count_read
+read_u32_count (Ok n) = refl
+read_u32_count (Err k) = refl
 
-pub read_u64_count : (a : ReadU64) → length (values count_read_u64 (answer_read_u64 a)) ≡ count_read_u64
-read_u64_count (u64.Value n) = refl
-read_u64_count (u64.Refused k) = refl
+pub read_u64_count : (a : Result ℕ Refusal) → length (values count_read (answer_read a)) ≡ count_read
+read_u64_count (Ok n) = refl
+read_u64_count (Err k) = refl
 
-pub write_count : (a : WriteBytes) → length (values count_write_bytes (answer_write_bytes a)) ≡ count_write_bytes
-write_count written.Done = refl
-write_count (written.Refused k) = refl
+pub write_count : (a : Result Unit Refusal) → length (values count_write_bytes (answer_write_bytes a)) ≡ count_write_bytes
+write_count (Ok tt) = refl
+write_count (Err k) = refl

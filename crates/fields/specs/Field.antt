@@ -1,13 +1,11 @@
 -- A field of lent bytes: the number that `w` bytes from `at` spell, or 1 where they run past the end; and what writing one answers and
 -- leaves.
 -- Assumes nothing.
-use Rattle.std.specs.Prelude.{ℕ, ◌+◌, List, ◌++◌, Bool, length, take, drop, leb}
+use Rattle.std.specs.Prelude.{ℕ, ◌+◌, List, ◌++◌, Bool, length, take, drop, leb, Result, Ok, Err}
 use Rattle.answer.specs.Test.{pick}
 use Rattle.answer.specs.Answer.{refuse_of, cut_of, room}
 use Rattle.answer.specs.declared.Refusal.{Refusal}
 use Rattle.fields.specs.Number.{number_at, bytes_of}
-use Rattle.fields.specs.declared.WriteBytes.{WriteBytes}
-use Rattle.fields.specs.declared.WriteBytes.TheVariants.{Done, Refused}
 
 -- 4.3: `w` bytes from `at` lie within `len` bytes; the sum is a number without bound, so it never wraps
 abbrev pub fits_of : ℕ → ℕ → ℕ → Bool
@@ -18,6 +16,10 @@ unfoldable pub read_of : {A : Type 0} → (ℕ → A) → (Refusal → A) → Bo
 read_of value refused big w s at =
     pick (leb (at + w) (length s)) (value (number_at big w s at)) (refused (cut_of (at + w)))
 
+-- the `w` bytes at `at`, or the refusal at their end
+unfoldable pub bytes_at_of : ℕ → List ℕ → ℕ → Result (List ℕ) Refusal
+bytes_at_of w s at = pick (leb (at + w) (length s)) (Ok (take w (drop at s))) (Err (cut_of (at + w)))
+
 -- the bytes `o` with `bs` in place of its own from `at`
 unfoldable pub put : List ℕ → ℕ → List ℕ → List ℕ
 put o at bs = take at o ++ bs ++ drop (at + length bs) o
@@ -27,8 +29,8 @@ unfoldable pub stored : List ℕ → ℕ → List ℕ → List ℕ
 stored o at bs = pick (leb (at + length bs) (length o)) (put o at bs) o
 
 -- 4.4: what writing `w` bytes answers
-unfoldable pub write_of : ℕ → List ℕ → ℕ → WriteBytes
-write_of w o at = pick (leb (at + w) (length o)) Done (Refused (refuse_of room))
+unfoldable pub write_of : ℕ → List ℕ → ℕ → Result Unit Refusal
+write_of w o at = pick (leb (at + w) (length o)) (Ok tt) (Err (refuse_of room))
 
 -- 4.4: what `o` is after a number was written
 abbrev pub write_out : Bool → ℕ → List ℕ → ℕ → ℕ → List ℕ

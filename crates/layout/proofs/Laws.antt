@@ -11,13 +11,13 @@ use native.Mathlib.Omega.{arith}
 use lib.ListN.{length, get_or, take, drop, set, length-append, length-take}
 use lib.Seq.{take_all, take-suc-set, split_at}
 use borrow.Author.Tests.{le-leb, lt-leb}
+use Rattle.std.specs.Prelude.{Result, Ok, Err}
 use Rattle.answer.specs.declared.Refusal.{Refusal}
 use Rattle.answer.specs.Answer.{cut_of, refuse_of, room}
 use Rattle.fields.specs.Number.{number_at, bytes_of}
 use Rattle.fields.specs.Field.{put, stored, write_of}
-use Rattle.fields.specs.declared.WriteBytes.TheVariants.{Done, Refused}
 use Rattle.fields.proofs.Number.{length_bytes}
-use Rattle.fields.proofs.Laws.{Missed, le_or_lt, put_sets, put_both, length_put, stored_put, store_done, store_refused}
+use Rattle.fields.proofs.Laws.{Missed, le_or_lt, put_sets, put_both, length_put, stored_put, store_done, store_refused, not_refused}
 use Rattle.layout.specs.Layout.{array, size, read_by, numbers_at, write_by}
 
 -- reading by a layout, a field at a time
@@ -121,6 +121,12 @@ module _ (big : Bool) (ws : List ℕ) (k : ℕ) (h : k < length ws) where
       let past : length s < at + size (take k ws) + get_or ws k 0 = omega (arith, m.past) in
       rw (m.why, e) (cut_at full (λ end. refusal (cut_of end)) s at (λ z. omega (arith, r z)) past)
 
+  -- the same of the answer that hands that refusal on
+  pub missed_by : {A : Type 0} (full : List ℕ → A) (refusal : Refusal → A) (s : List ℕ) (at i : ℕ) {q : Refusal} {r : A}
+      → Missed (get_or ws k 0) s i q → i ≡ at + size (take k ws) → (0 < k → i ≤ length s) → r ≡ refusal q
+      → r ≡ read_by full (λ end. refusal (cut_of end)) big ws s at
+  missed_by full refusal s at i m e r f = f ∙ missed_at full refusal s at i m e r
+
   -- writing: its bytes are put after theirs
   put_at : (ns o l m : List ℕ) (at i : ℕ) → l ≡ put o at (write_by big (take k ws) ns) → i ≡ at + size (take k ws)
       → at + size (take k ws) + get_or ws k 0 ≤ length o → m ≡ put l i (bytes_of big (get_or ws k 0) (get_or ns k 0))
@@ -144,6 +150,14 @@ module _ (big : Bool) (ws : List ℕ) (k : ℕ) (h : k < length ws) where
       (stored_put (get_or ws k 0) l i (bytes_of big (get_or ws k 0) (get_or ns k 0)) (length_bytes big (get_or ws k 0) (get_or ns k 0))
       (omega arith) f)
 
+  -- it has room, so it is not refused
+  pub room_at : (ns o l : List ℕ) (at i : ℕ) {r : Result Unit Refusal} {q : Refusal} → l ≡ put o at (write_by big (take k ws) ns)
+      → i ≡ at + size (take k ws) → at + size (take k ws) + get_or ws k 0 ≤ length o → r ≡ write_of (get_or ws k 0) l i → r ≡ Err q → ⊥
+  room_at ns o l at i e p h f =
+      let lw : length (write_by big (take k ws) ns) ≡ size (take k ws) = length_write big (take k ws) ns in
+      let ll : length l ≡ length o = ap length e ∙ length_put o at (write_by big (take k ws) ns) (omega arith) in
+      not_refused (get_or ws k 0) l i (omega arith) f
+
 -- writing a record: nothing yet, all of it, and no room
 pub put_none : (big : Bool) (ns o : List ℕ) (at : ℕ) → at ≤ length o → o ≡ put o at (write_by big [] ns)
 unfolding write_by
@@ -151,11 +165,11 @@ put_none big ns o at h = put_sets o at [] (omega arith)
 
 module _ (big : Bool) (ws ns o : List ℕ) (at : ℕ) where
   pub record_done : {l : List ℕ} → at + size ws ≤ length o → l ≡ put o at (write_by big ws ns)
-      → (Done ≡ write_of (size ws) o at) × (l ≡ stored o at (write_by big ws ns))
+      → (Ok tt ≡ write_of (size ws) o at) × (l ≡ stored o at (write_by big ws ns))
   record_done h e = store_done (size ws) o at (write_by big ws ns) (length_write big ws ns) h e
 
   pub record_refused : {q : Refusal} → length o < at + size ws → q ≡ refuse_of room
-      → (Refused q ≡ write_of (size ws) o at) × (o ≡ stored o at (write_by big ws ns))
+      → (Err q ≡ write_of (size ws) o at) × (o ≡ stored o at (write_by big ws ns))
   record_refused h e = store_refused (size ws) o at (write_by big ws ns) (length_write big ws ns) h e
 
 -- A run of one width: the field after `k` of them.

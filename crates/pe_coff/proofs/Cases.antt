@@ -1,5 +1,6 @@
 -- `read_of` on small inputs, by computation.
 -- Assumes nothing.
+use Rattle.std.specs.Prelude.{Ok, Err}
 use mathlib.Core.Path.{◌≡◌, refl}
 use mathlib.Core.List.{List, [], ◌∷◌}
 use lib.ListN.{take}
@@ -10,7 +11,6 @@ use Rattle.fields.specs.Number.{number_at}
 use Rattle.layout.specs.Layout.{read_by, size}
 use Rattle.pe_coff.specs.Coff.{coff_header, read_of}
 use Rattle.pe_coff.specs.declared.CoffHeader.{CoffHeader}
-use Rattle.pe_coff.specs.declared.ReadCoffHeader.TheVariants.{Value, Refused}
 
 twenty_bytes : size coff_header ≡ 20
 twenty_bytes = refl
@@ -31,19 +31,19 @@ header =
       characteristics = 0x2022;
     }
 
-ninety_six : read_of (image 96) 0 ≡ Value header
+ninety_six : read_of (image 96) 0 ≡ Ok header
 unfolding read_of must read_by number_at
 ninety_six = refl
 
-ninety_seven : read_of (image 97) 0 ≡ Refused (refuse_of limit)
+ninety_seven : read_of (image 97) 0 ≡ Err (refuse_of limit)
 unfolding read_of must read_by number_at
 ninety_seven = refl
 
 -- the count is judged before the bytes after it are missed
-count_before_the_rest : read_of (take 4 (image 97)) 0 ≡ Refused (refuse_of limit)
+count_before_the_rest : read_of (take 4 (image 97)) 0 ≡ Err (refuse_of limit)
 unfolding read_of must read_by number_at
 count_before_the_rest = refl
 
-one_byte_missing : read_of (take 19 (image 96)) 0 ≡ Refused (refuse_of short)
+one_byte_missing : read_of (take 19 (image 96)) 0 ≡ Err (refuse_of short)
 unfolding read_of must read_by number_at cut_of
 one_byte_missing = refl

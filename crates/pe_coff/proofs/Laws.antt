@@ -1,5 +1,6 @@
 -- The laws of the COFF header: what proofs of readers cite.
 -- Assumes nothing.
+use Rattle.std.specs.Prelude.{Result, Ok, Err}
 use mathlib.Core.Path.{◌≡◌, refl, sym, ap, ◌∙◌}
 use mathlib.Core.List.{List, ◌++◌}
 use mathlib.Core.Bool.{false}
@@ -19,8 +20,6 @@ use Rattle.layout.proofs.Theorems.{Reads, whole, cut as missing, reads}
 use Rattle.pe_section.specs.Section.{section_limit}
 use Rattle.pe_coff.specs.Coff.{coff_header, header_of, start, rest, read_of}
 use Rattle.pe_coff.specs.declared.CoffHeader.{CoffHeader}
-use Rattle.pe_coff.specs.declared.ReadCoffHeader.{ReadCoffHeader}
-use Rattle.pe_coff.specs.declared.ReadCoffHeader.TheVariants.{Value, Refused}
 
 -- the widths of the two parts in which the header is read
 abbrev pub early : List ℕ
@@ -32,21 +31,21 @@ late = widths rest
 -- The fields up to the section count were read.
 module _ (s : List ℕ) (at : ℕ) {n : ℕ} (h : at + 4 ≤ length s) (e : n ≡ number_at false 2 s (at + 2)) where
   -- the count is above the limit
-  pub coff_many : {k : Refusal} → section_limit < n → k ≡ refuse_of limit → Refused k ≡ read_of s at
+  pub coff_many : {k : Refusal} → section_limit < n → k ≡ refuse_of limit → Err k ≡ read_of s at
   unfolding read_of numbers_at
-  coff_many l f = full_is false _ _ _ early _ h (must_off Refused _ _ _ (lt-leb _ _ (rw e at l)) f)
+  coff_many l f = full_is false _ _ _ early _ h (must_off Err _ _ _ (lt-leb _ _ (rw e at l)) f)
 
   -- it is not, and what is answered is the reading of the rest
-  pub coff_rest : {x : ReadCoffHeader} → n ≤ section_limit
-      → x ≡ read_by (λ ns. Value (header_of (numbers_at false early s at ++ ns))) (λ end. Refused (cut_of end)) false late s (at + 4)
+  pub coff_rest : {x : Result CoffHeader Refusal} → n ≤ section_limit
+      → x ≡ read_by (λ ns. Ok (header_of (numbers_at false early s at ++ ns))) (λ end. Err (cut_of end)) false late s (at + 4)
       → x ≡ read_of s at
   unfolding read_of numbers_at
-  coff_rest l f = full_is false _ _ _ early _ h (must_on Refused _ _ _ (le-leb _ _ (rw e at l)) f)
+  coff_rest l f = full_is false _ _ _ early _ h (must_on Err _ _ _ (le-leb _ _ (rw e at l)) f)
 
-never : {h : CoffHeader} {k : Refusal} → Value h ≡ Refused k → ⊥
+never : {h : CoffHeader} {k : Refusal} → Ok h ≡ Err k → ⊥
 never e = let z : ◌≡◌ {A = ℕ} 0 1 = cc in omega arith
 
-same_header : {h g : CoffHeader} → Value h ≡ Value g → h ≡ g
+same_header : {h g : CoffHeader} → ◌≡◌ {A = Result CoffHeader Refusal} (Ok h) (Ok g) → h ≡ g
 same_header e = cc
 
 -- what a header that was read says
@@ -64,34 +63,34 @@ count_is : (s : List ℕ) (at : ℕ) → (header_of (numbers_at false coff_heade
 unfolding numbers_at
 count_is s at = refl
 
-by_rest : (s : List ℕ) (at : ℕ) {h : CoffHeader} {x : ReadCoffHeader} → number_at false 2 s (at + 2) ≤ section_limit → Value h ≡ x → Reads
-    (Value (header_of (numbers_at false early s at ++ numbers_at false late s (at + 4)))) (λ (end : ℕ). Refused (cut_of end)) late s (at + 4) x
+by_rest : (s : List ℕ) (at : ℕ) {h : CoffHeader} {x : Result CoffHeader Refusal} → number_at false 2 s (at + 2) ≤ section_limit → Ok h ≡ x → Reads
+    (Ok (header_of (numbers_at false early s at ++ numbers_at false late s (at + 4)))) (λ (end : ℕ). Err (cut_of end)) late s (at + 4) x
     → Whole s at h
 by_rest s at l e (whole r f) =
-    let v = same_header (e ∙ f ∙ ap (λ (ns : List ℕ). Value (header_of ns)) (both s at)) in
+    let v = same_header (e ∙ f ∙ ap (λ (ns : List ℕ). Ok (header_of ns)) (both s at)) in
     record { inside = omega (arith, r (omega arith)); few = rw (v, count_is s at) l; value = v }
 by_rest s at l e (missing n a b f) = absurd (never (e ∙ f))
 
-by_count : (s : List ℕ) (at : ℕ) {h : CoffHeader} → at + 4 ≤ length s → Value h ≡ read_of s at
+by_count : (s : List ℕ) (at : ℕ) {h : CoffHeader} → at + 4 ≤ length s → Ok h ≡ read_of s at
     → (number_at false 2 s (at + 2) ≤ section_limit) ⊎ (section_limit < number_at false 2 s (at + 2)) → Whole s at h
 by_count s at r e (inl l) =
     by_rest s at l (e ∙ sym (coff_rest s at r refl l refl))
-    (reads (λ ns. Value (header_of (numbers_at false early s at ++ ns))) (λ end. Refused (cut_of end)) false late s (at + 4))
+    (reads (λ ns. Ok (header_of (numbers_at false early s at ++ ns))) (λ end. Err (cut_of end)) false late s (at + 4))
 by_count s at r e (inr l) = absurd (never (e ∙ sym (coff_many s at r refl l refl)))
 
-by_start : (s : List ℕ) (at : ℕ) {h : CoffHeader} {f : ReadCoffHeader} → Value h ≡ read_of s at
-    → Reads f (λ (end : ℕ). Refused (cut_of end)) early s at (read_of s at) → Whole s at h
+by_start : (s : List ℕ) (at : ℕ) {h : CoffHeader} {f : Result CoffHeader Refusal} → Ok h ≡ read_of s at
+    → Reads f (λ (end : ℕ). Err (cut_of end)) early s at (read_of s at) → Whole s at h
 by_start s at e (whole r f) = by_count s at (r (omega arith)) e (le_or_lt (number_at false 2 s (at + 2)) section_limit)
 by_start s at e (missing n a b f) = absurd (never (e ∙ f))
 
-module _ (s : List ℕ) (at : ℕ) {r : ReadCoffHeader} (e : r ≡ read_of s at) where
-  pub coff_whole : {h : CoffHeader} → r ≡ Value h → Whole s at h
+module _ (s : List ℕ) (at : ℕ) {r : Result CoffHeader Refusal} (e : r ≡ read_of s at) where
+  pub coff_whole : {h : CoffHeader} → r ≡ Ok h → Whole s at h
   unfolding read_of
-  coff_whole f = by_start s at (sym f ∙ e) (reads _ (λ end. Refused (cut_of end)) false early s at)
+  coff_whole f = by_start s at (sym f ∙ e) (reads _ (λ end. Err (cut_of end)) false early s at)
 
 -- a header whose section count is within the limit and whose bytes are all there
 pub coff_full : (s : List ℕ) (at : ℕ) → at + 20 ≤ length s → number_at false 2 s (at + 2) ≤ section_limit
-    → Value (header_of (numbers_at false coff_header s at)) ≡ read_of s at
+    → Ok (header_of (numbers_at false coff_header s at)) ≡ read_of s at
 coff_full s at h l =
     coff_rest s at (omega arith) refl l
-    (full_is false s _ _ late (at + 4) (omega arith) (ap (λ (ns : List ℕ). Value (header_of ns)) (sym (both s at))))
+    (full_is false s _ _ late (at + 4) (omega arith) (ap (λ (ns : List ℕ). Ok (header_of ns)) (sym (both s at))))

@@ -1,14 +1,13 @@
 -- The COFF header, 20 bytes, the least significant byte of each number first (Microsoft, "PE Format", COFF File Header (Object and
 -- Image)).
 -- Assumes nothing.
-use Rattle.std.specs.Prelude.{ℕ, ◌+◌, List, [], ◌∷◌, ◌++◌, false, leb}
+use Rattle.std.specs.Prelude.{Result, Ok, Err, ℕ, ◌+◌, List, [], ◌∷◌, ◌++◌, false, leb}
+use Rattle.answer.specs.declared.Refusal.{Refusal}
 use Rattle.answer.specs.Answer.{limit}
 use Rattle.answer.specs.Test.{must}
 use Rattle.layout.specs.Layout.{Field, field, widths, the, up_to, after, bytes_in, reading}
 use Rattle.pe_section.specs.Section.{section_limit}
 use Rattle.pe_coff.specs.declared.CoffHeader.{CoffHeader}
-use Rattle.pe_coff.specs.declared.ReadCoffHeader.{ReadCoffHeader}
-use Rattle.pe_coff.specs.declared.ReadCoffHeader.TheVariants.{Value, Refused}
 
 -- 4.13: offset, width, name
 abbrev pub fields : List Field
@@ -58,10 +57,10 @@ abbrev pub rest : List Field
 rest = after "NumberOfSections" fields
 
 -- 3.6, 6.19: what reading the header at `at` answers: the header, or 1 at the first field that is not whole
-unfoldable pub read_of : List ℕ → ℕ → ReadCoffHeader
+unfoldable pub read_of : List ℕ → ℕ → Result CoffHeader Refusal
 read_of s at =
-    reading Refused false start s at
+    reading Err false start s at
     (λ ms.
     -- 6.5: a section count above 96 is 3, before the fields after it are read
-    must Refused (leb (the fields "NumberOfSections" ms) section_limit) limit
-    (reading Refused false rest s (at + bytes_in start) (λ ns. Value (header_of (ms ++ ns)))))
+    must Err (leb (the fields "NumberOfSections" ms) section_limit) limit
+    (reading Err false rest s (at + bytes_in start) (λ ns. Ok (header_of (ms ++ ns)))))

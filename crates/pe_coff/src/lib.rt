@@ -2,15 +2,15 @@
 #![tactic(auto)]
 
 ghost use Rattle.std.specs.Prelude.{◌≡◌};
-ghost use Rattle.pe_coff.specs.Coff.{read_of};
+ghost use Rattle.pe_coff.specs.Coff.{numbers_of, read_of};
 
-use answer::{Reason, Refusal};
-use cursor::{Cursor, NextU16, NextU32};
+use answer::{Numbers, Reason, Refusal};
+use cursor::Cursor;
 
 // The bytes of the header.
 pub const SIZE: usize = 20;
 
-#[derive(Clone, Copy)]
+#[derive(Clone, Copy, Debug, PartialEq, Eq)]
 pub struct CoffHeader {
     pub machine: u16,
     pub number_of_sections: u16,
@@ -21,55 +21,44 @@ pub struct CoffHeader {
     pub characteristics: u16,
 }
 
-#[derive(Clone, Copy)]
-pub enum ReadCoffHeader {
-    Value(CoffHeader),
-    Refused(Refusal),
+impl Numbers<7> for CoffHeader {
+    ghost numbers = { numbers_of };
+
+    fn numbers(self) -> [u64; 7] {
+        [
+            self.machine.into(),
+            self.number_of_sections.into(),
+            self.time_date_stamp.into(),
+            self.pointer_to_symbol_table.into(),
+            self.number_of_symbols.into(),
+            self.size_of_optional_header.into(),
+            self.characteristics.into(),
+        ]
+    }
 }
 
 // The header at `at`; a section count above the limit is refused before the fields after it are read.
-pub fn read(s: &[u8], at: usize) -> ReadCoffHeader
+pub fn read(s: &[u8], at: usize) -> Result<CoffHeader, Refusal>
     ensures { result ≡ read_of s.now at }
 {
-    let machine = match Cursor::new(at).next_u16(s, false) {
-        NextU16::Value(t) => t,
-        NextU16::Refused(k) => return ReadCoffHeader::Refused(k),
-    };
-    let sections = match machine.next.next_u16(s, false) {
-        NextU16::Value(t) => t,
-        NextU16::Refused(k) => return ReadCoffHeader::Refused(k),
-    };
-    let count = sections.value as usize;
-    if pe_section::LIMIT < count {
-        return ReadCoffHeader::Refused(answer::refuse(Reason::Limit));
+    let mut cursor = Cursor::new(at);
+    let machine = cursor.next(s, false)?;
+    let number_of_sections = cursor.next(s, false)?;
+    if pe_section::LIMIT < number_of_sections as usize {
+        return Err(Reason::Limit.into());
     }
-    let time = match sections.next.next_u32(s, false) {
-        NextU32::Value(t) => t,
-        NextU32::Refused(k) => return ReadCoffHeader::Refused(k),
-    };
-    let pointer = match time.next.next_u32(s, false) {
-        NextU32::Value(t) => t,
-        NextU32::Refused(k) => return ReadCoffHeader::Refused(k),
-    };
-    let symbols = match pointer.next.next_u32(s, false) {
-        NextU32::Value(t) => t,
-        NextU32::Refused(k) => return ReadCoffHeader::Refused(k),
-    };
-    let size = match symbols.next.next_u16(s, false) {
-        NextU16::Value(t) => t,
-        NextU16::Refused(k) => return ReadCoffHeader::Refused(k),
-    };
-    let characteristics = match size.next.next_u16(s, false) {
-        NextU16::Value(t) => t,
-        NextU16::Refused(k) => return ReadCoffHeader::Refused(k),
-    };
-    ReadCoffHeader::Value(CoffHeader {
-        machine: machine.value,
-        number_of_sections: sections.value,
-        time_date_stamp: time.value,
-        pointer_to_symbol_table: pointer.value,
-        number_of_symbols: symbols.value,
-        size_of_optional_header: size.value,
-        characteristics: characteristics.value,
+    let time_date_stamp = cursor.next(s, false)?;
+    let pointer_to_symbol_table = cursor.next(s, false)?;
+    let number_of_symbols = cursor.next(s, false)?;
+    let size_of_optional_header = cursor.next(s, false)?;
+    let characteristics = cursor.next(s, false)?;
+    Ok(CoffHeader {
+        machine,
+        number_of_sections,
+        time_date_stamp,
+        pointer_to_symbol_table,
+        number_of_symbols,
+        size_of_optional_header,
+        characteristics,
     })
 }

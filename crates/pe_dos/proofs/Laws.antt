@@ -1,12 +1,13 @@
 -- The laws of the DOS header: what proofs of readers and writers cite.
 -- Assumes nothing.
+use Rattle.std.specs.Prelude.{Result, Ok, Err}
 use mathlib.Core.Path.{◌≡◌, refl, sym, ap, ◌∙◌}
 use mathlib.Core.List.{List, [], ◌∷◌, ◌++◌}
 use mathlib.Core.Bool.{Bool, true, false}
 use mathlib.Core.Logic.{⊎_elim}
 use Prim.Native.Nat.{ℕ, ◌+◌, ◌≤◌, ◌<◌}
 use native.Mathlib.Omega.{arith}
-use lib.ListN.{length, take, replicate}
+use lib.ListN.{length, take}
 use lib.Dec.{eqb}
 use borrow.Author.Tests.{eq-eqb, ne_eqb, eqb-true, eqb-false}
 use Rattle.answer.specs.Answer.{cut_of, refuse_of, magic, room}
@@ -14,17 +15,13 @@ use Rattle.answer.specs.declared.Refusal.{Refusal}
 use Rattle.answer.proofs.Laws.{must_on, must_off}
 use Rattle.fields.specs.Number.{number_at}
 use Rattle.fields.specs.Field.{put}
-use Rattle.fields.specs.declared.WriteBytes.TheVariants as written
 use Rattle.fields.proofs.Laws.{Missed, le_or_lt}
 use Rattle.layout.specs.Layout.{widths, array, elements, read_by, numbers_at, write_by}
 use Rattle.layout.proofs.Laws.{Part, found, missing, part, full_is, missed_at, record_done, record_refused}
 use Rattle.layout.proofs.Theorems.{Reads, whole as all, cut as lacking, reads}
-use Rattle.pe_dos.specs.Dos.{dos_header, header_of, numbers_of, dos_magic, whole, refused_by, start, rest, read_of, write_of, write_out}
+use Rattle.pe_dos.specs.Dos.{dos_header, header_of, numbers_of, dos_magic, whole, start, rest, read_of, write_of, write_out}
 use Rattle.pe_dos.specs.Code.{halves_at}
 use Rattle.pe_dos.specs.declared.DosHeader.{DosHeader}
-use Rattle.pe_dos.specs.declared.Halves.{Halves}
-use Rattle.pe_dos.specs.declared.Outcome.TheVariants.{Whole, Refused}
-use Rattle.pe_dos.specs.declared.ReadDosHeader.{ReadDosHeader}
 
 -- the widths of the two parts in which the header is read
 abbrev early : List ℕ
@@ -33,106 +30,105 @@ early = widths start
 abbrev late : List ℕ
 late = widths rest
 
-abbrev short : ℕ → ReadDosHeader
-short end = refused_by (cut_of end)
+abbrev short : ℕ → Result DosHeader Refusal
+short end = Err (cut_of end)
 
 -- the signature is not whole
-pub dos_missed : (s : List ℕ) (at : ℕ) {k : Refusal} → Missed 2 s at k → refused_by k ≡ read_of s at
+pub dos_missed : (s : List ℕ) (at : ℕ) {k : Refusal} → Missed 2 s at k → Err k ≡ read_of s at
 unfolding read_of
-dos_missed s at m = missed_at false early 0 (omega arith) _ refused_by s at at m (omega arith) (λ l. omega arith)
+dos_missed s at m = missed_at false early 0 (omega arith) _ Err s at at m (omega arith) (λ l. omega arith)
 
 -- The signature was read.
 module _ (s : List ℕ) (at : ℕ) {n : ℕ} (h : at + 2 ≤ length s) (e : n ≡ number_at false 2 s at) where
-  pub dos_wrong : {k : Refusal} → (n ≡ dos_magic → ⊥) → k ≡ refuse_of magic → refused_by k ≡ read_of s at
+  pub dos_wrong : {k : Refusal} → (n ≡ dos_magic → ⊥) → k ≡ refuse_of magic → Err k ≡ read_of s at
   unfolding read_of numbers_at
-  dos_wrong l f = full_is false _ _ _ early _ h (must_off refused_by _ _ _ (ne_eqb _ _ (λ z. l (e ∙ z))) f)
+  dos_wrong l f = full_is false _ _ _ early _ h (must_off Err _ _ _ (ne_eqb _ _ (λ z. l (e ∙ z))) f)
 
-  pub dos_rest : {x : ReadDosHeader} → n ≡ dos_magic → x ≡ read_by (λ ns. whole (number_at false 2 s at ∷ ns)) short false late s (at + 2)
+  pub dos_rest : {x : Result DosHeader Refusal} → n ≡ dos_magic → x ≡ read_by (λ ns. whole (number_at false 2 s at ∷ ns)) short false late s (at + 2)
       → x ≡ read_of s at
   unfolding read_of numbers_at
-  dos_rest l f = full_is false _ _ _ early _ h (must_on refused_by _ _ _ (eq-eqb _ _ (sym e ∙ l)) f)
+  dos_rest l f = full_is false _ _ _ early _ h (must_on Err _ _ _ (eq-eqb _ _ (sym e ∙ l)) f)
 
--- the numbers of the run after the signature, the place past it, and what is left to read
-pub record Run (full : List ℕ → ReadDosHeader) (r : Halves) (s : List ℕ) (at : ℕ) : Type 0 where
-  pub numbers : r.numbers ≡ numbers_at false (array 29 2 []) s at
-  pub past : r.next.at ≡ at + 58
-  pub onward : read_by (λ ns. full (numbers_at false (array 29 2 []) s at ++ ns)) short false (4 ∷ []) s (at + 58) ≡ read_by full short false
+-- the numbers of the run after the signature, and what is left to read
+pub record Run (full : List ℕ → Result DosHeader Refusal) (ns s : List ℕ) (at : ℕ) : Type 0 where
+  pub numbers : ns ≡ numbers_at false (array 29 2 []) s at
+  pub onward : read_by (λ ms. full (numbers_at false (array 29 2 []) s at ++ ms)) short false (4 ∷ []) s (at + 58) ≡ read_by full short false
       late s at
 
-abbrev halves : List ℕ → ℕ → List ℕ → Halves
-halves s at ns = record { outcome = Whole; numbers = ns; next = record { at = at + 58 } }
+abbrev no_halves : ℕ → Result (List ℕ) Refusal
+no_halves end = Err (cut_of end)
 
-abbrev no_halves : ℕ → Halves
-no_halves end = record { outcome = Refused (cut_of end); numbers = replicate 29 0; next = record { at = 0 } }
-
-abbrev told : (List ℕ → ReadDosHeader) → Halves → List ℕ → ℕ → Type 0
-told full r s at = Part r (halves s at (numbers_at false (array 29 2 []) s at)) no_halves (read_by full short false late s at)
+abbrev told : (List ℕ → Result DosHeader Refusal) → Result (List ℕ) Refusal → List ℕ → ℕ → Type 0
+told full r s at = Part r (Ok (numbers_at false (array 29 2 []) s at)) no_halves (read_by full short false late s at)
     (read_by (λ ns. full (numbers_at false (array 29 2 []) s at ++ ns)) short false (4 ∷ []) s (at + 58)) short
 
-both : (full : List ℕ → ReadDosHeader) (r : Halves) (s : List ℕ) (at : ℕ) → r ≡ halves_at s at → told full r s at
+both : (full : List ℕ → Result DosHeader Refusal) (r : Result (List ℕ) Refusal) (s : List ℕ) (at : ℕ) → r ≡ halves_at s at → told full r s at
 unfolding halves_at
-both full r s at e = rw e (part (halves s at) no_halves full short false (array 29 2 []) (4 ∷ []) s at)
+both full r s at e = rw e (part Ok no_halves full short false (array 29 2 []) (4 ∷ []) s at)
 
-never : {k : Refusal} → Whole ≡ Refused k → ⊥
+never : {ns : List ℕ} {k : Refusal} → ◌≡◌ {A = Result (List ℕ) Refusal} (Ok ns) (Err k) → ⊥
 never e = let z : ◌≡◌ {A = ℕ} 0 1 = cc in omega arith
 
-same_refusal : {k j : Refusal} → Refused k ≡ Refused j → k ≡ j
+same_numbers : {ns ms : List ℕ} → ◌≡◌ {A = Result (List ℕ) Refusal} (Ok ns) (Ok ms) → ns ≡ ms
+same_numbers e = cc
+
+same_refusal : {k j : Refusal} → ◌≡◌ {A = Result (List ℕ) Refusal} (Err k) (Err j) → k ≡ j
 same_refusal e = cc
 
-cut_of_lem : (full : List ℕ → ReadDosHeader) (r : Halves) (s : List ℕ) (at : ℕ) {k : Refusal} → r.outcome ≡ Refused k → told full r s at
-    → refused_by k ≡ read_by full short false late s at
-cut_of_lem full r s at w (found e f) = absurd (never (ap (λ (h : Halves). h.outcome) (sym e) ∙ w))
-cut_of_lem full r s at w (missing n e f) = ap refused_by (same_refusal (sym w ∙ ap (λ (h : Halves). h.outcome) e)) ∙ f
+cut_of_lem : (full : List ℕ → Result DosHeader Refusal) {r : Result (List ℕ) Refusal} (s : List ℕ) (at : ℕ) {k : Refusal} → r ≡ Err k
+    → told full r s at → Err k ≡ read_by full short false late s at
+cut_of_lem full s at w (found e f) = absurd (never (sym e ∙ w))
+cut_of_lem full s at w (missing n e f) = ap Err (same_refusal (sym w ∙ e)) ∙ f
 
-run_of : (full : List ℕ → ReadDosHeader) (r : Halves) (s : List ℕ) (at : ℕ) → r.outcome ≡ Whole → told full r s at → Run full r s at
-run_of full r s at w (found e f) = record
-    { numbers = ap (λ (h : Halves). h.numbers) e; past = ap (λ (h : Halves). h.next.at) e; onward = f }
-run_of full r s at w (missing n e f) = absurd (never (sym w ∙ ap (λ (h : Halves). h.outcome) e))
+run_of : (full : List ℕ → Result DosHeader Refusal) {r : Result (List ℕ) Refusal} (s : List ℕ) (at : ℕ) {ns : List ℕ} → r ≡ Ok ns
+    → told full r s at → Run full ns s at
+run_of full s at w (found e f) = record { numbers = same_numbers (sym w ∙ e); onward = f }
+run_of full s at w (missing n e f) = absurd (never (sym w ∙ e))
 
 -- what the run tells of the rest of the header
-module _ (full : List ℕ → ReadDosHeader) (r : Halves) (s : List ℕ) (at : ℕ) (e : r ≡ halves_at s at) where
-  pub run_missed : {k : Refusal} → r.outcome ≡ Refused k → refused_by k ≡ read_by full short false late s at
-  run_missed w = cut_of_lem full r s at w (both full r s at e)
+module _ (full : List ℕ → Result DosHeader Refusal) {r : Result (List ℕ) Refusal} (s : List ℕ) (at : ℕ) (e : r ≡ halves_at s at) where
+  pub run_missed : {k : Refusal} → r ≡ Err k → Err k ≡ read_by full short false late s at
+  run_missed w = cut_of_lem full s at w (both full r s at e)
 
-  pub run_whole : r.outcome ≡ Whole → Run full r s at
-  run_whole w = run_of full r s at w (both full r s at e)
+  pub run_whole : {ns : List ℕ} → r ≡ Ok ns → Run full ns s at
+  run_whole w = run_of full s at w (both full r s at e)
 
-module _ (full : List ℕ → ReadDosHeader) (r : Halves) (s : List ℕ) (at : ℕ) (t : Run full r s at) where
-  pub pointer_missed : {k : Refusal} → Missed 4 s r.next.at k → refused_by k ≡ read_by full short false late s at
+module _ (full : List ℕ → Result DosHeader Refusal) {ns : List ℕ} (s : List ℕ) (at : ℕ) (t : Run full ns s at) (i : ℕ) (p : i ≡ at + 58) where
+  pub pointer_missed : {k : Refusal} → Missed 4 s i k → Err k ≡ read_by full short false late s at
   pointer_missed m =
-      missed_at false (4 ∷ []) 0 (omega arith) (λ ns. full (numbers_at false (array 29 2 []) s at ++ ns)) refused_by s (at + 58) (at + 58)
-      (rw t.past at m) (omega arith) (λ l. omega arith)
+      missed_at false (4 ∷ []) 0 (omega arith) (λ ms. full (numbers_at false (array 29 2 []) s at ++ ms)) Err s (at + 58) (at + 58)
+      (rw p at m) (omega arith) (λ l. omega arith)
       ∙ t.onward
 
-  pub pointer_read : {n : ℕ} → r.next.at + 4 ≤ length s → n ≡ number_at false 4 s r.next.at
-      → full (elements 29 0 r.numbers (n ∷ [])) ≡ read_by full short false late s at
+  pub pointer_read : {n : ℕ} → i + 4 ≤ length s → n ≡ number_at false 4 s i
+      → full (elements 29 0 ns (n ∷ [])) ≡ read_by full short false late s at
   unfolding numbers_at
   pointer_read h k =
-      full_is false s (λ ns. full (numbers_at false (array 29 2 []) s at ++ ns)) short (4 ∷ []) (at + 58) (omega (arith, t.past))
-      (rw (k, t.past, t.numbers))
+      full_is false s (λ ms. full (numbers_at false (array 29 2 []) s at ++ ms)) short (4 ∷ []) (at + 58) (omega (arith, p))
+      (rw (k, p, t.numbers))
       ∙ t.onward
 
 -- Writing.
 module _ (o : List ℕ) (at : ℕ) (h : DosHeader) where
   pub write_wrong : {k : Refusal} → (h.signature ≡ dos_magic → ⊥) → k ≡ refuse_of magic
-      → (written.Refused k ≡ write_of o at h) × (o ≡ write_out o at h)
+      → (Err k ≡ write_of o at h) × (o ≡ write_out o at h)
   unfolding write_of write_out
-  write_wrong l e = (must_off written.Refused _ _ _ (ne_eqb _ _ l) e, rw (ne_eqb h.signature dos_magic l))
+  write_wrong l e = (must_off Err _ _ _ (ne_eqb _ _ l) e, rw (ne_eqb h.signature dos_magic l))
 
   module _ (l : h.signature ≡ dos_magic) where
     pub write_done : {m : List ℕ} → at + 64 ≤ length o → m ≡ put o at (write_by false dos_header (numbers_of h))
-        → (written.Done ≡ write_of o at h) × (m ≡ write_out o at h)
+        → (Ok tt ≡ write_of o at h) × (m ≡ write_out o at h)
     unfolding write_of write_out
     write_done r e =
         let d = record_done false dos_header (numbers_of h) o at r e in
-        (must_on written.Refused _ _ _ (eq-eqb _ _ l) d.0, rw (eq-eqb h.signature dos_magic l) d.1)
+        (must_on Err _ _ _ (eq-eqb _ _ l) d.0, rw (eq-eqb h.signature dos_magic l) d.1)
 
     pub write_refused : {k : Refusal} → length o < at + 64 → k ≡ refuse_of room
-        → (written.Refused k ≡ write_of o at h) × (o ≡ write_out o at h)
+        → (Err k ≡ write_of o at h) × (o ≡ write_out o at h)
     unfolding write_of write_out
     write_refused r e =
         let d = record_refused false dos_header (numbers_of h) o at r e in
-        (must_on written.Refused _ _ _ (eq-eqb _ _ l) d.0, rw (eq-eqb h.signature dos_magic l) d.1)
+        (must_on Err _ _ _ (eq-eqb _ _ l) d.0, rw (eq-eqb h.signature dos_magic l) d.1)
 
 -- the run that was put is the layout's first thirty fields
 pub halves_wrote : (h : DosHeader) (n o l : List ℕ) (at : ℕ) → n ≡ take 30 (numbers_of h) → l ≡ put o at (write_by false (array 30 2 []) n)
@@ -158,29 +154,31 @@ pub record Read (s : List ℕ) (at : ℕ) (h : DosHeader) : Type 0 where
   pub magic_is : number_at false 2 s at ≡ dos_magic
   pub value : h ≡ header_of (numbers_at false dos_header s at)
 
-whole_never : {h : DosHeader} {k : Refusal} → record { outcome = Whole; header = h } ≡ refused_by k → ⊥
-whole_never e = never (ap (λ (f : ReadDosHeader). f.outcome) e)
+whole_never : {h : DosHeader} {k : Refusal} → ◌≡◌ {A = Result DosHeader Refusal} (Ok h) (Err k) → ⊥
+whole_never e = let z : ◌≡◌ {A = ℕ} 0 1 = cc in omega arith
 
-by_rest : (s : List ℕ) (at : ℕ) {h : DosHeader} {x : ReadDosHeader} → number_at false 2 s at ≡ dos_magic
-    → record { outcome = Whole; header = h } ≡ x
+same_header : {h g : DosHeader} → ◌≡◌ {A = Result DosHeader Refusal} (Ok h) (Ok g) → h ≡ g
+same_header e = cc
+
+by_rest : (s : List ℕ) (at : ℕ) {h : DosHeader} {x : Result DosHeader Refusal} → number_at false 2 s at ≡ dos_magic
+    → Ok h ≡ x
     → Reads (whole (number_at false 2 s at ∷ numbers_at false late s (at + 2))) short late s (at + 2) x → Read s at h
 by_rest s at m e (all r f) =
     record {
       inside = omega (arith, r (omega arith));
       magic_is = m;
-      value = ap (λ (g : ReadDosHeader). g.header)
-          (e ∙ f ∙ ap whole (numbers_both s at));
+      value = same_header (e ∙ f ∙ ap whole (numbers_both s at));
     }
 by_rest s at m e (lacking n a b f) = absurd (whole_never (e ∙ f))
 
 by_magic : (s : List ℕ) (at : ℕ) {h : DosHeader} (t : Bool) → eqb (number_at false 2 s at) dos_magic ≡ t → at + 2 ≤ length s
-    → record { outcome = Whole; header = h } ≡ read_of s at → Read s at h
+    → Ok h ≡ read_of s at → Read s at h
 by_magic s at true b r e =
     let m = eqb-true _ _ b in
     by_rest s at m (e ∙ sym (dos_rest s at r refl m refl)) (reads (λ ns. whole (number_at false 2 s at ∷ ns)) short false late s (at + 2))
 by_magic s at false b r e = absurd (whole_never (e ∙ sym (dos_wrong s at r refl (eqb-false _ _ b) refl)))
 
-pub dos_told : (s : List ℕ) (at : ℕ) {h : DosHeader} → record { outcome = Whole; header = h } ≡ read_of s at → Read s at h
+pub dos_told : (s : List ℕ) (at : ℕ) {h : DosHeader} → Ok h ≡ read_of s at → Read s at h
 dos_told s at e =
     ⊎_elim
     (λ r. by_magic s at (eqb (number_at false 2 s at) dos_magic) refl r e)

@@ -1,7 +1,9 @@
 -- What is proved of the DOS header, for every input. That a function answers its definition is its contract (src/lib.rt).
 -- Assumes nothing.
+use Rattle.std.specs.Prelude.{Result, Ok, Err}
+use Rattle.answer.specs.declared.Refusal.{Refusal}
 use mathlib.Core.Path.{◌≡◌, refl, sym, ap, ◌∙◌}
-use mathlib.Core.List.{List, ◌++◌, append_assoc}
+use mathlib.Core.List.{List, [], ◌++◌, append_assoc}
 use mathlib.Core.Bool.{false}
 use Prim.Native.Nat.{ℕ, ◌+◌, ◌≤◌}
 use native.Mathlib.Omega.{arith}
@@ -12,16 +14,12 @@ use Rattle.answer.specs.Answer.{values}
 use Rattle.answer.proofs.Unique.{same, same_both}
 use Rattle.fields.specs.Number.{Bytes, number_at}
 use Rattle.fields.specs.Field.{put}
-use Rattle.fields.specs.declared.WriteBytes.{WriteBytes}
 use Rattle.layout.specs.Layout.{placed, numbers_at, write_by, Fits}
 use Rattle.layout.proofs.Laws.{read_full}
 use Rattle.layout.proofs.Theorems.{length_written, read_written, written_read, elements_all}
 use Rattle.pe_dos.specs.Dos.{fields, dos_header, header_of, numbers_of, dos_magic, whole, read_of, write_of, write_out}
-use Rattle.pe_dos.specs.Answers.{answer_outcome, answer_read_dos_header, count_read_dos_header}
+use Rattle.pe_dos.specs.Answers.{answer_read_dos_header, count_read_dos_header, header_or_zeros}
 use Rattle.pe_dos.specs.declared.DosHeader.{DosHeader}
-use Rattle.pe_dos.specs.declared.Outcome.{Outcome}
-use Rattle.pe_dos.specs.declared.Outcome.TheVariants.{Whole, Refused}
-use Rattle.pe_dos.specs.declared.ReadDosHeader.{ReadDosHeader}
 use Rattle.pe_dos.proofs.Laws.{dos_full, dos_told, write_done}
 
 -- Each field of the table is where the one before it ends.
@@ -49,18 +47,18 @@ first_number s at = refl
 
 -- A header that was written is read again, whatever precedes and follows it.
 pub found_written : (h : DosHeader) (p q : List ℕ) → Good h → h.signature ≡ dos_magic
-    → read_of (p ++ write_by false dos_header (numbers_of h) ++ q) (length p) ≡ record { outcome = Whole; header = h }
+    → read_of (p ++ write_by false dos_header (numbers_of h) ++ q) (length p) ≡ Ok h
 found_written h p q g m =
     let b : List ℕ = write_by false dos_header (numbers_of h) in
     let l : length p + 64 ≤ length (p ++ b ++ q) = simp length-append (omega (arith, length_written false dos_header (numbers_of h))) in
     let n = numbers_written (numbers_of h) p q g.fits in
     let k : number_at false 2 (p ++ b ++ q) (length p) ≡ dos_magic = first_number (p ++ b ++ q) (length p) ∙ ap (λ (ns : List ℕ). get_or ns 0 0)
     n ∙ m in
-    sym (dos_full (p ++ b ++ q) (length p) l k) ∙ ap whole n ∙ ap (λ (x : DosHeader). record { outcome = Whole; header = x }) (again h g)
+    sym (dos_full (p ++ b ++ q) (length p) l k) ∙ ap whole n ∙ ap Ok (again h g)
 
 -- In a lent buffer with room for it, too.
 pub read_stored : (o : List ℕ) (at : ℕ) (h : DosHeader) → Good h → h.signature ≡ dos_magic → at + 64 ≤ length o
-    → read_of (write_out o at h) at ≡ record { outcome = Whole; header = h }
+    → read_of (write_out o at h) at ≡ Ok h
 unfolding put
 read_stored o at h g m r =
     let b : List ℕ = write_by false dos_header (numbers_of h) in
@@ -69,7 +67,7 @@ read_stored o at h g m r =
     rw (← e) (rw k at (found_written h (take at o) (drop (at + length b) o) g m))
 
 -- Bytes that were read as a header are written again ..
-pub written_found : (s : List ℕ) (at : ℕ) (h : DosHeader) → Bytes s → record { outcome = Whole; header = h } ≡ read_of s at
+pub written_found : (s : List ℕ) (at : ℕ) (h : DosHeader) → Bytes s → Ok h ≡ read_of s at
     → write_by false dos_header (numbers_of h) ≡ take 64 (drop at s)
 unfolding numbers_at
 written_found s at h b e =
@@ -77,7 +75,7 @@ written_found s at h b e =
     ap (λ (x : DosHeader). write_by false dos_header (numbers_of x)) t.value ∙ written_read false dos_header s at t.inside b
 
 -- .. and written where they were, they change nothing.
-pub stored_found : (s : List ℕ) (at : ℕ) (h : DosHeader) → Bytes s → record { outcome = Whole; header = h } ≡ read_of s at
+pub stored_found : (s : List ℕ) (at : ℕ) (h : DosHeader) → Bytes s → Ok h ≡ read_of s at
     → write_out s at h ≡ s
 unfolding put numbers_at
 stored_found s at h b e =
@@ -94,17 +92,21 @@ stored_found s at h b e =
     ) (take-append-drop at s)
 
 -- Two answers that meet a promise of this crate are equal.
-pub read_unique : (s : List ℕ) (at : ℕ) {r q : ReadDosHeader} → r ≡ read_of s at → q ≡ read_of s at → r ≡ q
+pub read_unique : (s : List ℕ) (at : ℕ) {r q : Result DosHeader Refusal} → r ≡ read_of s at → q ≡ read_of s at → r ≡ q
 read_unique s at = same
 
-pub write_unique : (o : List ℕ) (at : ℕ) (h : DosHeader) {r q : WriteBytes} {l k : List ℕ} → (r ≡ write_of o at h) × (l ≡ write_out o at h)
+pub write_unique : (o : List ℕ) (at : ℕ) (h : DosHeader) {r q : Result Unit Refusal} {l k : List ℕ} → (r ≡ write_of o at h) × (l ≡ write_out o at h)
     → (q ≡ write_of o at h) × (k ≡ write_out o at h) → (r ≡ q) × (l ≡ k)
 write_unique o at h = same_both
 
 -- The answer has as many numbers as it says, zeros where it is refused.
-by_outcome : (o : Outcome) (h : DosHeader) → length (values count_read_dos_header (answer_outcome o h)) ≡ count_read_dos_header
-by_outcome Whole h = refl
-by_outcome (Refused k) h = refl
+pub read_count : (a : Result DosHeader Refusal) → length (values count_read_dos_header (answer_read_dos_header a)) ≡ count_read_dos_header
+read_count (Ok h) = refl
+read_count (Err k) = refl
 
-pub read_count : (a : ReadDosHeader) → length (values count_read_dos_header (answer_read_dos_header a)) ≡ count_read_dos_header
-read_count a = by_outcome a.outcome a.header
+-- The header that C is handed is the one that was read, and zeros where it is refused.
+pub read_header : (h : DosHeader) → header_or_zeros (Ok h) ≡ h
+read_header h = refl
+
+pub refused_zeros : (k : Refusal) → header_or_zeros (Err k) ≡ header_of []
+refused_zeros k = refl

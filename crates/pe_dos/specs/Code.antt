@@ -1,18 +1,10 @@
--- What a private function of the code hands back, by a struct of the code; no other definition cites it.
+-- What a private function of the code answers; no other definition cites it.
 -- Assumes nothing.
-use Rattle.std.specs.Prelude.{ℕ, ◌+◌, List, [], false, replicate}
+use Rattle.std.specs.Prelude.{Result, Ok, Err, ℕ, List, [], false}
 use Rattle.answer.specs.Answer.{cut_of}
+use Rattle.answer.specs.declared.Refusal.{Refusal}
 use Rattle.layout.specs.Layout.{array, read_by}
-use Rattle.pe_dos.specs.declared.Halves.{Halves}
-use Rattle.pe_dos.specs.declared.Outcome.TheVariants.{Whole, Refused}
 
--- the run of 29 numbers of two bytes from `at` on, and the place past them
-unfoldable pub halves_at : List ℕ → ℕ → Halves
-halves_at s at =
-    read_by
-    (λ ns. record { outcome = Whole; numbers = ns; next = record { at = at + 58 } })
-    (λ end. record { outcome = Refused (cut_of end); numbers = replicate 29 0; next = record { at = 0 } })
-    false
-    (array 29 2 [])
-    s
-    at
+-- the run of 29 numbers of two bytes from `at` on
+unfoldable pub halves_at : List ℕ → ℕ → Result (List ℕ) Refusal
+halves_at s at = read_by Ok (λ end. Err (cut_of end)) false (array 29 2 []) s at

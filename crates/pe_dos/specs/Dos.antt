@@ -1,16 +1,12 @@
 -- The DOS header, 64 bytes, the least significant byte of each number first.
 -- Assumes nothing.
-use Rattle.std.specs.Prelude.{ℕ, ◌+◌, List, [], ◌∷◌, ◌++◌, false, eqb}
+use Rattle.std.specs.Prelude.{Result, Ok, Err, ℕ, ◌+◌, List, [], ◌∷◌, ◌++◌, false, eqb}
 use Rattle.answer.specs.Answer.{magic}
 use Rattle.answer.specs.Test.{pick, must}
 use Rattle.answer.specs.declared.Refusal.{Refusal}
 use Rattle.fields.specs.Field.{write_of as written_in, stored}
-use Rattle.fields.specs.declared.WriteBytes.{WriteBytes}
-use Rattle.fields.specs.declared.WriteBytes.TheVariants as written
 use Rattle.layout.specs.Layout.{Field, field, many, widths, place, the, up_to, after, bytes_in, elements, reading, write_by}
 use Rattle.pe_dos.specs.declared.DosHeader.{DosHeader}
-use Rattle.pe_dos.specs.declared.Outcome.TheVariants.{Whole, Refused}
-use Rattle.pe_dos.specs.declared.ReadDosHeader.{ReadDosHeader}
 
 -- 4.12: offset, width, name
 abbrev pub fields : List Field
@@ -90,12 +86,9 @@ numbers_of h =
 abbrev pub dos_magic : ℕ
 dos_magic = 0x5A4D
 
--- 6.17: a header that is read, and one that is refused, which is all zeros
-abbrev pub whole : List ℕ → ReadDosHeader
-whole ns = record { outcome = Whole; header = header_of ns }
-
-abbrev pub refused_by : Refusal → ReadDosHeader
-refused_by k = record { outcome = Refused k; header = header_of [] }
+-- 6.17: a header that is read
+abbrev pub whole : List ℕ → Result DosHeader Refusal
+whole ns = Ok (header_of ns)
 
 -- the signature, and the fields after it
 abbrev pub start : List Field
@@ -105,17 +98,17 @@ abbrev pub rest : List Field
 rest = after "e_magic" fields
 
 -- 3.6, 6.17: what reading the header at `at` answers: the header, or 1 at the first field that is not whole
-unfoldable pub read_of : List ℕ → ℕ → ReadDosHeader
+unfoldable pub read_of : List ℕ → ℕ → Result DosHeader Refusal
 read_of s at =
-    reading refused_by false start s at
+    reading Err false start s at
     (λ ms.
     -- 6.1: another signature is 2, before the fields after it are read
-    must refused_by (eqb (the fields "e_magic" ms) dos_magic) magic
-    (reading refused_by false rest s (at + bytes_in start) (λ ns. whole (ms ++ ns))))
+    must Err (eqb (the fields "e_magic" ms) dos_magic) magic
+    (reading Err false rest s (at + bytes_in start) (λ ns. whole (ms ++ ns))))
 
 -- 6.18: what writing a header answers: another signature is 2, before there is no room (4.9: 13)
-unfoldable pub write_of : List ℕ → ℕ → DosHeader → WriteBytes
-write_of o at h = must written.Refused (eqb h.signature dos_magic) magic (written_in 64 o at)
+unfoldable pub write_of : List ℕ → ℕ → DosHeader → Result Unit Refusal
+write_of o at h = must Err (eqb h.signature dos_magic) magic (written_in 64 o at)
 
 -- 4.9, 6.18: what `o` is after the header was written at `at`: unchanged where it is refused
 unfoldable pub write_out : List ℕ → ℕ → DosHeader → List ℕ

@@ -1,22 +1,22 @@
 // The DOS header that an image begins with (`DosHeader`), read from lent bytes and written into them.
 #![tactic(auto)]
 
-ghost use Rattle.std.specs.Prelude.{◌≡◌, false, ◌∷◌, [], ◌+◌, ◌≤◌, length, take};
+ghost use Rattle.std.specs.Prelude.{◌≡◌, false, ◌∷◌, [], ◌+◌, ◌≤◌, length, take, IfOk};
 ghost use Rattle.fields.specs.Field.{put};
 ghost use Rattle.layout.specs.Layout.{elements, array, write_by};
-ghost use Rattle.pe_dos.specs.Dos.{header_of, numbers_of, refused_by, read_of, write_of, write_out};
+ghost use Rattle.pe_dos.specs.Dos.{header_of, numbers_of, read_of, write_of, write_out};
 ghost use Rattle.pe_dos.specs.Code.{halves_at};
 
 use answer::{Reason, Refusal};
-use cursor::{Cursor, NextU16, NextU32};
-use fields::WriteBytes;
+use cursor::Cursor;
+use fields::Unsigned;
 
 // The bytes of the header.
 pub const SIZE: usize = 64;
 
 pub const SIGNATURE: u16 = 0x5A4D;
 
-#[derive(Clone, Copy)]
+#[derive(Clone, Copy, Debug, PartialEq, Eq)]
 pub struct DosHeader {
     pub signature: u16,
     pub bytes_on_last_page: u16,
@@ -39,110 +39,44 @@ pub struct DosHeader {
     pub pe_pointer: u32,
 }
 
-// The header holds arrays, which a case of an enum cannot, so it is beside the outcome.
-#[derive(Clone, Copy)]
-pub enum Outcome {
-    Whole,
-    Refused(Refusal),
-}
-
-#[derive(Clone, Copy)]
-pub struct ReadDosHeader {
-    pub outcome: Outcome,
-    // Zeros where it is refused.
-    pub header: DosHeader,
-}
-
-// The numbers of two bytes after the signature, and the place past them.
-#[derive(Clone, Copy)]
-struct Halves {
-    outcome: Outcome,
-    numbers: [u16; 29],
-    next: Cursor,
-}
-
-pub fn read(s: &[u8], at: usize) -> ReadDosHeader
+pub fn read(s: &[u8], at: usize) -> Result<DosHeader, Refusal>
     ensures { result ≡ read_of s.now at }
 {
-    let signature = match Cursor::new(at).next_u16(s, false) {
-        NextU16::Value(t) => t,
-        NextU16::Refused(k) => return refused(k),
-    };
-    if signature.value != SIGNATURE {
-        return refused(answer::refuse(Reason::Magic));
+    let mut cursor = Cursor::new(at);
+    let signature = cursor.next(s, false)?;
+    if signature != SIGNATURE {
+        return Err(Reason::Magic.into());
     }
-    let halves = halves_at(s, signature.next);
-    let outcome = halves.outcome;
-    let numbers = halves.numbers;
-    match outcome {
-        Outcome::Whole => {}
-        Outcome::Refused(k) => {
-            return refused(k);
-        }
-    }
-    let pointer = match halves.next.next_u32(s, false) {
-        NextU32::Value(t) => t,
-        NextU32::Refused(k) => return refused(k),
-    };
-    ReadDosHeader {
-        outcome: Outcome::Whole,
-        header: header_of(signature.value, numbers, pointer.value),
-    }
+    let halves = halves_at(s, &mut cursor)?;
+    let pe_pointer = cursor.next(s, false)?;
+    Ok(header_of(signature, halves, pe_pointer))
 }
 
-pub fn write(out: &mut [u8], at: usize, header: DosHeader) -> WriteBytes
+pub fn write(out: &mut [u8], at: usize, header: DosHeader) -> Result<(), Refusal>
     ensures { (result ≡ write_of out.old at header) × (out.new ≡ write_out out.old at header) }
 {
     if header.signature != SIGNATURE {
-        return WriteBytes::Refused(answer::refuse(Reason::Magic));
+        return Err(Reason::Magic.into());
     }
     if fields::fits(out.len(), at, SIZE) {
         // There is room for the header, so nothing here is refused.
-        put_halves(out, at, halves_of(header));
-        fields::write_u32(out, at + 60, header.pe_pointer, false);
-        return WriteBytes::Done;
+        put_halves(out, at, halves_of(header))?;
+        header.pe_pointer.write(out, at + 60, false)?;
+        return Ok(());
     }
-    WriteBytes::Refused(answer::refuse(Reason::Room))
+    Err(Reason::Room.into())
 }
 
-// What a refused read hands back: a header of zeros.
-fn refused(k: Refusal) -> ReadDosHeader
-    ensures { result ≡ refused_by k }
+// The numbers of two bytes after the signature; the cursor moves past them.
+fn halves_at(s: &[u8], cursor: &mut Cursor) -> Result<[u16; 29], Refusal>
+    ensures numbers { result ≡ halves_at s.now cursor.old.at }
+    ensures place { IfOk result (λ ns. cursor.new.at ≡ cursor.old.at + 58) }
 {
-    ReadDosHeader {
-        outcome: Outcome::Refused(k),
-        header: header_of(0, [0u16; 29], 0),
+    let mut numbers = [0; 29];
+    for half in &mut numbers {
+        *half = cursor.next(s, false)?;
     }
-}
-
-// The run of numbers of two bytes from a cursor on.
-fn halves_at(s: &[u8], from: Cursor) -> Halves
-    ensures { result ≡ halves_at s.now from.at }
-{
-    let mut numbers = [0u16; 29];
-    let mut at = from.at;
-    let mut i: usize = 0;
-    while i < 29 {
-        let half = match Cursor::new(at).next_u16(s, false) {
-            NextU16::Value(t) => t,
-            NextU16::Refused(k) => {
-                return Halves {
-                    outcome: Outcome::Refused(k),
-                    numbers: [0u16; 29],
-                    next: Cursor { at: 0 },
-                };
-            }
-        };
-        let next = half.next;
-        numbers[i] = half.value;
-        at = next.at;
-        i += 1;
-    }
-    Halves {
-        outcome: Outcome::Whole,
-        numbers,
-        next: Cursor { at },
-    }
+    Ok(numbers)
 }
 
 fn header_of(signature: u16, n: [u16; 29], pe_pointer: u32) -> DosHeader
@@ -173,24 +107,21 @@ fn header_of(signature: u16, n: [u16; 29], pe_pointer: u32) -> DosHeader
     }
 }
 
-fn put_halves(out: &mut [u8], from: usize, n: [u16; 30])
+fn put_halves(out: &mut [u8], from: usize, numbers: [u16; 30]) -> Result<(), Refusal>
     requires { from + 60 ≤ length out.old }
-    ensures { out.new ≡ put out.old from (write_by false (array 30 2 []) n) }
+    ensures { (result ≡ Ok tt) × (out.new ≡ put out.old from (write_by false (array 30 2 []) numbers)) }
 {
     let mut at = from;
-    let mut i: usize = 0;
-    while i < 30 {
-        fields::write_u16(out, at, n[i], false);
+    for half in &numbers {
+        half.write(out, at, false)?;
         at += 2;
-        i += 1;
     }
+    Ok(())
 }
 
 fn halves_of(h: DosHeader) -> [u16; 30]
     ensures { result ≡ take 30 (numbers_of h) }
 {
-    let a = h.reserved;
-    let b = h.reserved2;
     [
         h.signature,
         h.bytes_on_last_page,
@@ -206,21 +137,21 @@ fn halves_of(h: DosHeader) -> [u16; 30]
         h.initial_relative_cs,
         h.file_address_of_relocation_table,
         h.overlay_number,
-        a[0],
-        a[1],
-        a[2],
-        a[3],
+        h.reserved[0],
+        h.reserved[1],
+        h.reserved[2],
+        h.reserved[3],
         h.oem_id,
         h.oem_info,
-        b[0],
-        b[1],
-        b[2],
-        b[3],
-        b[4],
-        b[5],
-        b[6],
-        b[7],
-        b[8],
-        b[9],
+        h.reserved2[0],
+        h.reserved2[1],
+        h.reserved2[2],
+        h.reserved2[3],
+        h.reserved2[4],
+        h.reserved2[5],
+        h.reserved2[6],
+        h.reserved2[7],
+        h.reserved2[8],
+        h.reserved2[9],
     ]
 }

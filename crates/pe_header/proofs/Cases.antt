@@ -1,5 +1,6 @@
 -- `open_of` on small inputs, by computation.
 -- Assumes nothing.
+use Rattle.std.specs.Prelude.{Ok, Err, None}
 use mathlib.Core.Path.{◌≡◌, refl}
 use mathlib.Core.List.{List, [], ◌∷◌, ◌++◌}
 use Prim.Native.Nat.{ℕ, ◌*◌}
@@ -13,11 +14,9 @@ use Rattle.pe_dos.specs.Dos.{read_of as dos_at}
 use Rattle.pe_coff.specs.Coff.{read_of as coff_at}
 use Rattle.pe_optional.specs.Optional.{needed, fields_at, read_of as optional_at}
 use Rattle.pe_optional.specs.declared.OptionalMagic.TheVariants as magics
-use Rattle.pe_optional.specs.declared.ExceptionDirectory.TheVariants as exceptions
 use Rattle.pe_section.specs.Section.{read_of as row_at}
 use Rattle.pe_header.specs.Header.{pointer_in, coff_in, rows_at, open_of}
 use Rattle.pe_header.specs.declared.Header.{Header}
-use Rattle.pe_header.specs.declared.OpenHeader.TheVariants.{Value, Refused}
 
 -- a DOS header whose PE pointer is 64, and the signature there, which ends in `t`
 abbrev front : ℕ → List ℕ
@@ -45,30 +44,30 @@ opened n =
       magic = magics.Pe32Plus;
       file_alignment = 512;
       number_of_directories = 0;
-      exceptions = exceptions.Missing;
+      exceptions = None;
       section_table = 200;
     }
 
-two_sections : open_of (image 2 112) ≡ Value (opened 2)
+two_sections : open_of (image 2 112) ≡ Ok (opened 2)
 unfolding open_of must pointer_in dos_at coff_in coff_at optional_at fields_at needed rows_at row_at field_of read_by number_at
 two_sections = refl
 
 -- the last byte of the last row is missing
-row_cut : open_of (take 279 (image 2 112)) ≡ Refused (refuse_of short)
+row_cut : open_of (take 279 (image 2 112)) ≡ Err (refuse_of short)
 unfolding open_of must pointer_in dos_at coff_in coff_at optional_at fields_at needed rows_at row_at field_of read_by number_at cut_of
 row_cut = refl
 
 -- 97 is 3, also where its rows are missing
-ninety_seven : open_of (front 0 ++ coff 97 112) ≡ Refused (refuse_of limit)
+ninety_seven : open_of (front 0 ++ coff 97 112) ≡ Err (refuse_of limit)
 unfolding open_of must pointer_in dos_at coff_in coff_at field_of read_by number_at
 ninety_seven = refl
 
-wrong_signature : open_of (front 1) ≡ Refused (refuse_of magic)
+wrong_signature : open_of (front 1) ≡ Err (refuse_of magic)
 unfolding open_of must pointer_in dos_at coff_in coff_at field_of read_by number_at
 wrong_signature = refl
 
 -- the directory count is not inside the stated optional size
-size_one_short : open_of (image 2 111) ≡ Refused (refuse_of contradiction)
+size_one_short : open_of (image 2 111) ≡ Err (refuse_of contradiction)
 unfolding open_of must pointer_in dos_at coff_in coff_at optional_at fields_at needed field_of read_by number_at
 size_one_short = refl
 
@@ -83,7 +82,7 @@ over =
     ++ replicate 72 0
 
 pointer_below_64 : open_of over
-    ≡ Value
+    ≡ Ok
     (record {
       pe_pointer = 4;
       machine = 0x8664;
@@ -93,13 +92,13 @@ pointer_below_64 : open_of over
       magic = magics.Pe32Plus;
       file_alignment = 512;
       number_of_directories = 0;
-      exceptions = exceptions.Missing;
+      exceptions = None;
       section_table = 140;
     })
 unfolding open_of must pointer_in dos_at coff_in coff_at optional_at fields_at needed rows_at field_of read_by number_at
 pointer_below_64 = refl
 
 -- 96 sections are accepted
-ninety_six : open_of (image 96 112) ≡ Value (opened 96)
+ninety_six : open_of (image 96 112) ≡ Ok (opened 96)
 unfolding open_of must pointer_in dos_at coff_in coff_at optional_at fields_at needed rows_at row_at field_of read_by number_at
 ninety_six = refl

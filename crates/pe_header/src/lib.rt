@@ -2,18 +2,18 @@
 #![tactic(auto)]
 
 ghost use Rattle.std.specs.Prelude.{◌≡◌};
-ghost use Rattle.pe_header.specs.Header.{pointer_in, coff_in, rows_at, open_of};
+ghost use Rattle.pe_header.specs.Header.{coff_in, rows_at, open_of};
+ghost use Rattle.pe_header.specs.Answers.{header_numbers};
 
-use answer::{Reason, Refusal};
-use cursor::{Cursor, NextU32};
-use fields::ReadU32;
-use pe_dos::Outcome;
-use pe_optional::{ExceptionDirectory, OptionalMagic};
+use answer::{Numbers, Reason, Refusal};
+use fields::Unsigned;
+use pe_coff::CoffHeader;
+use pe_optional::{DataDirectory, OptionalMagic};
 
 const SIGNATURE: u32 = 0x00004550;
 
 // What the headers of an accepted file say; the offsets count from its front.
-#[derive(Clone, Copy)]
+#[derive(Clone, Copy, Debug, PartialEq, Eq)]
 pub struct Header {
     pub pe_pointer: usize,
     pub machine: u16,
@@ -23,111 +23,80 @@ pub struct Header {
     pub magic: OptionalMagic,
     pub file_alignment: u32,
     pub number_of_directories: u32,
-    pub exceptions: ExceptionDirectory,
+    pub exceptions: Option<DataDirectory>,
     pub section_table: usize,
 }
 
-#[derive(Clone, Copy)]
-pub enum OpenHeader {
-    Value(Header),
-    Refused(Refusal),
+// Its numbers have zeros in place of an exception directory that is missing.
+impl Numbers<11> for Header {
+    ghost numbers = { header_numbers };
+
+    fn numbers(self) -> [u64; 11] {
+        let directory = self.exceptions.unwrap_or_default();
+        [
+            self.pe_pointer as u64,
+            self.machine.into(),
+            self.number_of_sections as u64,
+            self.optional_offset as u64,
+            self.optional_size as u64,
+            self.magic.into(),
+            self.file_alignment.into(),
+            self.number_of_directories.into(),
+            directory.virtual_address.into(),
+            directory.size.into(),
+            self.section_table as u64,
+        ]
+    }
 }
 
-#[derive(Clone, Copy)]
-enum CheckRows {
-    Whole,
-    Refused(Refusal),
-}
-
-pub fn open(file: &[u8]) -> OpenHeader
+pub fn open(file: &[u8]) -> Result<Header, Refusal>
     ensures { result ≡ open_of file.now }
 {
     if answer::FILE_LIMIT < file.len() {
-        return OpenHeader::Refused(answer::refuse(Reason::Limit));
+        return Err(Reason::Limit.into());
     }
-    let pointer = match read_pointer(file) {
-        ReadU32::Value(n) => n,
-        ReadU32::Refused(k) => return OpenHeader::Refused(k),
-    };
-    let coff = match read_coff(file, pointer) {
-        pe_coff::ReadCoffHeader::Value(h) => h,
-        pe_coff::ReadCoffHeader::Refused(k) => return OpenHeader::Refused(k),
-    };
-    let pe_pointer = pointer as usize;
+    let dos = pe_dos::read(file, 0)?;
+    let pe_pointer = dos.pe_pointer as usize;
+    let coff = read_coff(file, pe_pointer)?;
     let optional_offset = pe_pointer + 4 + pe_coff::SIZE;
     let optional_size = coff.size_of_optional_header as usize;
-    let optional = match pe_optional::read(file, optional_offset, optional_size) {
-        pe_optional::ReadOptionalHeader::Value(h) => h,
-        pe_optional::ReadOptionalHeader::Refused(k) => return OpenHeader::Refused(k),
-    };
+    let optional = pe_optional::read(file, optional_offset, optional_size)?;
     let section_table = optional_offset + optional_size;
     let number_of_sections = coff.number_of_sections as usize;
-    match read_rows(file, section_table, number_of_sections) {
-        CheckRows::Whole => {}
-        CheckRows::Refused(k) => {
-            return OpenHeader::Refused(k);
-        }
-    }
-    let magic = optional.magic;
-    let exceptions = optional.exceptions;
-    OpenHeader::Value(Header {
+    read_rows(file, section_table, number_of_sections)?;
+    Ok(Header {
         pe_pointer,
         machine: coff.machine,
         number_of_sections,
         optional_offset,
         optional_size,
-        magic,
+        magic: optional.magic,
         file_alignment: optional.file_alignment,
         number_of_directories: optional.number_of_directories,
-        exceptions,
+        exceptions: optional.exceptions,
         section_table,
     })
 }
 
-// The PE pointer of the DOS header.
-fn read_pointer(file: &[u8]) -> ReadU32
-    ensures { result ≡ pointer_in file.now }
-{
-    let found = pe_dos::read(file, 0);
-    let outcome = found.outcome;
-    let header = found.header;
-    match outcome {
-        Outcome::Whole => ReadU32::Value(header.pe_pointer),
-        Outcome::Refused(k) => ReadU32::Refused(k),
-    }
-}
-
 // The COFF header after the signature, which the PE pointer leads to.
-fn read_coff(file: &[u8], pointer: u32) -> pe_coff::ReadCoffHeader
-    ensures { result ≡ coff_in file.now pointer }
+fn read_coff(file: &[u8], at: usize) -> Result<CoffHeader, Refusal>
+    ensures { result ≡ coff_in file.now at }
 {
-    let at = pointer as usize;
-    let signature = match Cursor::new(at).next_u32(file, false) {
-        NextU32::Value(t) => t,
-        NextU32::Refused(k) => return pe_coff::ReadCoffHeader::Refused(k),
-    };
-    let number = signature.value;
-    if number == SIGNATURE {
-        return pe_coff::read(file, at + 4);
+    let signature = u32::read(file, at, false)?;
+    if signature != SIGNATURE {
+        return Err(Reason::Magic.into());
     }
-    pe_coff::ReadCoffHeader::Refused(answer::refuse(Reason::Magic))
+    pe_coff::read(file, at + 4)
 }
 
 // Whether all rows of the section table are there.
-fn read_rows(file: &[u8], table: usize, count: usize) -> CheckRows
-    ensures { result ≡ rows_at CheckRows.Refused count file.now table CheckRows.Whole }
+fn read_rows(file: &[u8], table: usize, count: usize) -> Result<(), Refusal>
+    ensures { result ≡ rows_at Err count file.now table (Ok tt) }
 {
-    let mut left = count;
     let mut at = table;
-    while 0 < left {
-        match pe_section::read(file, at) {
-            pe_section::ReadSectionTable::Value(_) => {}
-            pe_section::ReadSectionTable::Refused(k) => {
-                return CheckRows::Refused(k);
-            }
-        }
-        left -= 1;
+    for _ in 0..count {
+        pe_section::read(file, at)?;
         at += pe_section::SIZE;
     }
-    CheckRows::Whole
+    Ok(())
 }

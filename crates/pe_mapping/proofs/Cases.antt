@@ -1,5 +1,6 @@
 -- The definitions on small inputs, by computation.
 -- Assumes nothing.
+use Rattle.std.specs.Prelude.{Ok, Err}
 use mathlib.Core.Path.{◌≡◌, refl}
 use mathlib.Core.List.{List, [], ◌∷◌, ◌++◌}
 use mathlib.Core.Bool.{true, false}
@@ -12,7 +13,6 @@ use Rattle.pe_section.specs.Section.{section_table_of, row_of, read_of}
 use Rattle.pe_section.specs.declared.SectionTable.{SectionTable}
 use Rattle.pe_mapping.specs.Mapping.{up, power_below, power_of_two, readable_size, holds, first_of, find_offset_of}
 use Rattle.pe_mapping.specs.declared.Sections.{Sections}
-use Rattle.pe_mapping.specs.declared.FindOffset.TheVariants.{Value, Refused}
 
 -- 0 and 513 are no powers of two; 1 and 2 ^ 31 are
 alignment_zero : power_of_two 0 ≡ false
@@ -64,42 +64,42 @@ abbrev row : ℕ → ℕ → ℕ → ℕ → List ℕ
 row size address raw pointer = write_by false section_table_of (0 ∷ size ∷ address ∷ raw ∷ pointer ∷ [])
 
 -- the raw pointer is not rounded in the result
-first_byte : find_offset_of (row 0 4096 512 1040) (rows 1 512) 4096 ≡ Value 1040
+first_byte : find_offset_of (row 0 4096 512 1040) (rows 1 512) 4096 ≡ Ok 1040
 unfolding find_offset_of must power_below first_of read_of read_by number_at write_by bytes_of holds readable_size up
 first_byte = refl
 
-last_byte : find_offset_of (row 0 4096 512 1040) (rows 1 512) 5119 ≡ Value 2063
+last_byte : find_offset_of (row 0 4096 512 1040) (rows 1 512) 5119 ≡ Ok 2063
 unfolding find_offset_of must power_below first_of read_of read_by number_at write_by bytes_of holds readable_size up
 last_byte = refl
 
-end_of_the_section : find_offset_of (row 0 4096 512 1040) (rows 1 512) 5120 ≡ Refused (refuse_of no_section)
+end_of_the_section : find_offset_of (row 0 4096 512 1040) (rows 1 512) 5120 ≡ Err (refuse_of no_section)
 unfolding find_offset_of must power_below first_of read_of read_by number_at write_by bytes_of holds readable_size up
 end_of_the_section = refl
 
 -- two sections that hold one address
-first_of_two : find_offset_of (row 0 4096 512 1024 ++ row 0 4096 512 2048) (rows 2 512) 4097 ≡ Value 1025
+first_of_two : find_offset_of (row 0 4096 512 1024 ++ row 0 4096 512 2048) (rows 2 512) 4097 ≡ Ok 1025
 unfolding find_offset_of must power_below first_of read_of read_by number_at write_by bytes_of holds readable_size up
 first_of_two = refl
 
 -- a match in an earlier row wins without looking further
-second_row_missing : find_offset_of (row 0 4096 512 1024) (rows 2 512) 4097 ≡ Value 1025
+second_row_missing : find_offset_of (row 0 4096 512 1024) (rows 2 512) 4097 ≡ Ok 1025
 unfolding find_offset_of must power_below first_of read_of read_by number_at write_by bytes_of holds readable_size up
 second_row_missing = refl
 
-second_row_needed : find_offset_of (row 0 4096 512 1024) (rows 2 512) 8192 ≡ Refused (refuse_of short)
+second_row_needed : find_offset_of (row 0 4096 512 1024) (rows 2 512) 8192 ≡ Err (refuse_of short)
 unfolding find_offset_of must power_below first_of read_of read_by number_at write_by bytes_of holds readable_size up cut_of
 second_row_needed = refl
 
 -- all sums are in 64 bits
-past_32_bits : find_offset_of (row 0 4096 4096 4294967295) (rows 1 512) 8191 ≡ Value 4294971390
+past_32_bits : find_offset_of (row 0 4096 4096 4294967295) (rows 1 512) 8191 ≡ Ok 4294971390
 unfolding find_offset_of must power_below first_of read_of read_by number_at write_by bytes_of holds readable_size up
 past_32_bits = refl
 
 -- the limit comes before the alignment, and the alignment before the rows
-limit_first : find_offset_of [] (rows 97 0) 0 ≡ Refused (refuse_of limit)
+limit_first : find_offset_of [] (rows 97 0) 0 ≡ Err (refuse_of limit)
 unfolding find_offset_of must
 limit_first = refl
 
-alignment_next : find_offset_of [] (rows 1 3) 0 ≡ Refused (refuse_of no_section)
+alignment_next : find_offset_of [] (rows 1 3) 0 ≡ Err (refuse_of no_section)
 unfolding find_offset_of must power_below
 alignment_next = refl

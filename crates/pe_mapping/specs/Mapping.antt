@@ -1,14 +1,12 @@
 -- Which section holds an address, and the file offset that it maps it to.
 -- Assumes nothing.
-use Rattle.std.specs.Prelude.{ℕ, zero, suc, ◌+◌, ◌-◌, ◌*◌, ◌/◌, ◌^◌, min, List, Bool, true, false, leb, ltb, eqb}
-use Rattle.answer.specs.Answer.{refuse_of, limit, no_section}
+use Rattle.std.specs.Prelude.{Result, Ok, Err, ℕ, zero, suc, ◌+◌, ◌-◌, ◌*◌, ◌/◌, ◌^◌, min, List, Bool, true, false, leb, ltb, eqb}
+use Rattle.answer.specs.Answer.{on_ok, refuse_of, limit, no_section}
+use Rattle.answer.specs.declared.Refusal.{Refusal}
 use Rattle.answer.specs.Test.{pick, must, in_limit}
 use Rattle.pe_section.specs.Section.{read_of, section_limit}
-use Rattle.pe_section.specs.Answers.{on_read_section_table}
 use Rattle.pe_section.specs.declared.SectionTable.{SectionTable}
 use Rattle.pe_mapping.specs.declared.Sections.{Sections}
-use Rattle.pe_mapping.specs.declared.FindOffset.{FindOffset}
-use Rattle.pe_mapping.specs.declared.FindOffset.TheVariants.{Value, Refused}
 
 -- rounded down to a multiple of `m`
 abbrev pub down : ℕ → ℕ → ℕ
@@ -55,19 +53,19 @@ offset_in h address = h.pointer_to_raw_data + (address - h.virtual_address)
 
 -- 7.6: the first of `n` rows from `at` that holds the address gives its offset; 7.7: a row that is looked at and not whole is 1, and 5
 -- where no row holds it
-unfoldable pub first_of : ℕ → List ℕ → ℕ → ℕ → ℕ → FindOffset
-first_of zero s at alignment address = Refused (refuse_of no_section)
+unfoldable pub first_of : ℕ → List ℕ → ℕ → ℕ → ℕ → Result ℕ Refusal
+first_of zero s at alignment address = Err (refuse_of no_section)
 first_of (suc n) s at alignment address =
-    on_read_section_table (read_of s at) Refused
-    (λ h. pick (holds alignment h address) (Value (offset_in h address)) (first_of n s (at + 40) alignment address))
+    on_ok (read_of s at) Err
+    (λ h. pick (holds alignment h address) (Ok (offset_in h address)) (first_of n s (at + 40) alignment address))
 
 -- 7.4: the file offset of an address, by a section table
-unfoldable pub find_offset_of : List ℕ → Sections → ℕ → FindOffset
+unfoldable pub find_offset_of : List ℕ → Sections → ℕ → Result ℕ Refusal
 find_offset_of s sections address =
     -- 3.1: the file's length comes first
-    in_limit Refused s
+    in_limit Err s
     -- 1.2: a count above 96 is 3
-    (must Refused (leb sections.count section_limit) limit
+    (must Err (leb sections.count section_limit) limit
     -- 7.5: an alignment that is no power of two maps nothing: 5
-    (must Refused (power_of_two sections.alignment) no_section
+    (must Err (power_of_two sections.alignment) no_section
     (first_of sections.count s sections.table sections.alignment address)))

@@ -2,11 +2,11 @@
 #![tactic(auto)]
 
 ghost use Rattle.std.specs.Prelude.{◌≡◌};
-ghost use Rattle.pe_optional.specs.Optional.{count_at, exception_at, needed, fields_at, read_of};
+ghost use Rattle.pe_optional.specs.Optional.{magic_of, magic_named, count_at, exception_at, needed, fields_at, read_of};
+ghost use Rattle.pe_optional.specs.Answers.{header_numbers};
 
-use answer::{Reason, Refusal};
-use cursor::{Cursor, NextU16, NextU32};
-use fields::ReadU32;
+use answer::{Numbers, Reason, Refusal};
+use fields::Unsigned;
 
 const PE32: u16 = 0x10B;
 
@@ -17,99 +17,107 @@ const FILE_ALIGNMENT: usize = 36;
 // The index of the exception directory.
 const EXCEPTION_INDEX: u32 = 3;
 
-const LAST: usize = 0xFFFF_FFFF_FFFF_FFFF;
-
 // Which form of the header the magic number names.
-#[derive(Clone, Copy)]
+#[derive(Clone, Copy, Debug, PartialEq, Eq)]
 pub enum OptionalMagic {
     Pe32,
     Pe32Plus,
 }
 
-#[derive(Clone, Copy)]
+impl TryFrom<u16> for OptionalMagic {
+    type Error = Refusal;
+
+    ghost try_from_gives = { λ n r. r ≡ magic_named n };
+
+    fn try_from(number: u16) -> Result<OptionalMagic, Refusal> {
+        match number {
+            PE32 => Ok(OptionalMagic::Pe32),
+            PE32_PLUS => Ok(OptionalMagic::Pe32Plus),
+            _ => Err(Reason::Magic.into()),
+        }
+    }
+}
+
+impl From<OptionalMagic> for u64 {
+    ghost from_gives = { λ m n. n ≡ magic_of m };
+
+    fn from(magic: OptionalMagic) -> u64 {
+        match magic {
+            OptionalMagic::Pe32 => PE32.into(),
+            OptionalMagic::Pe32Plus => PE32_PLUS.into(),
+        }
+    }
+}
+
+#[derive(Clone, Copy, Debug, Default, PartialEq, Eq)]
 pub struct DataDirectory {
     pub virtual_address: u32,
     pub size: u32,
 }
 
-// The exception directory.
-#[derive(Clone, Copy)]
-pub enum ExceptionDirectory {
-    // The header has too few directories.
-    Missing,
-    Given(DataDirectory),
-}
-
-#[derive(Clone, Copy)]
+#[derive(Clone, Copy, Debug, PartialEq, Eq)]
 pub struct OptionalHeader {
     pub magic: OptionalMagic,
     pub file_alignment: u32,
     pub number_of_directories: u32,
-    pub exceptions: ExceptionDirectory,
+    pub exceptions: Option<DataDirectory>,
 }
 
-#[derive(Clone, Copy)]
-pub enum ReadOptionalHeader {
-    Value(OptionalHeader),
-    Refused(Refusal),
+// Its numbers have zeros in place of an exception directory that is missing.
+impl Numbers<5> for OptionalHeader {
+    ghost numbers = { header_numbers };
+
+    fn numbers(self) -> [u64; 5] {
+        let directory = self.exceptions.unwrap_or_default();
+        [
+            self.magic.into(),
+            self.file_alignment.into(),
+            self.number_of_directories.into(),
+            directory.virtual_address.into(),
+            directory.size.into(),
+        ]
+    }
 }
 
 // The fields of the header at `at`, whose stated size is `size`.
-pub fn read(s: &[u8], at: usize, size: usize) -> ReadOptionalHeader
+pub fn read(s: &[u8], at: usize, size: usize) -> Result<OptionalHeader, Refusal>
     ensures { result ≡ read_of s.now at size }
 {
-    let magic = match Cursor::new(at).next_u16(s, false) {
-        NextU16::Value(t) => t,
-        NextU16::Refused(k) => return ReadOptionalHeader::Refused(k),
-    };
-    let number = magic.value;
-    if number == PE32 {
-        return read_fields(s, at, size, OptionalMagic::Pe32);
-    }
-    if number == PE32_PLUS {
-        return read_fields(s, at, size, OptionalMagic::Pe32Plus);
-    }
-    ReadOptionalHeader::Refused(answer::refuse(Reason::Magic))
+    let number = u16::read(s, at, false)?;
+    let magic = OptionalMagic::try_from(number)?;
+    read_fields(s, at, size, magic)
 }
 
 // The fields after the magic number.
-fn read_fields(s: &[u8], at: usize, size: usize, magic: OptionalMagic) -> ReadOptionalHeader
+fn read_fields(
+    s: &[u8],
+    at: usize,
+    size: usize,
+    magic: OptionalMagic,
+) -> Result<OptionalHeader, Refusal>
     ensures { result ≡ fields_at s.now at size magic }
 {
-    let exception = exception_at(magic);
     if size < 2 {
-        return ReadOptionalHeader::Refused(answer::refuse(Reason::Contradiction));
+        return Err(Reason::Contradiction.into());
     }
-    let alignment = match read_needed(s, at, size, FILE_ALIGNMENT) {
-        ReadU32::Value(n) => n,
-        ReadU32::Refused(k) => return ReadOptionalHeader::Refused(k),
-    };
-    let count = match read_needed(s, at, size, count_at(magic)) {
-        ReadU32::Value(n) => n,
-        ReadU32::Refused(k) => return ReadOptionalHeader::Refused(k),
-    };
-    if count <= EXCEPTION_INDEX {
-        return ReadOptionalHeader::Value(OptionalHeader {
+    let file_alignment = read_needed(s, at, size, FILE_ALIGNMENT)?;
+    let number_of_directories = read_needed(s, at, size, count_at(magic))?;
+    if number_of_directories <= EXCEPTION_INDEX {
+        return Ok(OptionalHeader {
             magic,
-            file_alignment: alignment,
-            number_of_directories: count,
-            exceptions: ExceptionDirectory::Missing,
+            file_alignment,
+            number_of_directories,
+            exceptions: None,
         });
     }
-    let address = match read_needed(s, at, size, exception) {
-        ReadU32::Value(n) => n,
-        ReadU32::Refused(k) => return ReadOptionalHeader::Refused(k),
-    };
-    let length = match read_needed(s, at, size, exception + 4) {
-        ReadU32::Value(n) => n,
-        ReadU32::Refused(k) => return ReadOptionalHeader::Refused(k),
-    };
-    ReadOptionalHeader::Value(OptionalHeader {
+    let virtual_address = read_needed(s, at, size, exception_at(magic))?;
+    let length = read_needed(s, at, size, exception_at(magic) + 4)?;
+    Ok(OptionalHeader {
         magic,
-        file_alignment: alignment,
-        number_of_directories: count,
-        exceptions: ExceptionDirectory::Given(DataDirectory {
-            virtual_address: address,
+        file_alignment,
+        number_of_directories,
+        exceptions: Some(DataDirectory {
+            virtual_address,
             size: length,
         }),
     })
@@ -136,19 +144,16 @@ fn exception_at(magic: OptionalMagic) -> usize
 }
 
 // The field at an offset of the header, which has to lie inside its stated size.
-fn read_needed(s: &[u8], at: usize, size: usize, offset: usize) -> ReadU32
-    ensures { result ≡ needed ReadU32.Refused s.now at size offset ReadU32.Value }
+fn read_needed(s: &[u8], at: usize, size: usize, offset: usize) -> Result<u32, Refusal>
+    ensures { result ≡ needed Err s.now at size offset Ok }
 {
-    // A field past 64 bits is in no file.
-    if LAST - offset < at {
-        return ReadU32::Refused(answer::beyond());
-    }
-    let field = match Cursor::new(at + offset).next_u32(s, false) {
-        NextU32::Value(t) => t,
-        NextU32::Refused(k) => return ReadU32::Refused(k),
+    let Some(place) = at.checked_add(offset) else {
+        // A field past 64 bits is in no file.
+        return Err(answer::beyond());
     };
+    let field = u32::read(s, place, false)?;
     if fields::fits(size, offset, 4) {
-        return ReadU32::Value(field.value);
+        return Ok(field);
     }
-    ReadU32::Refused(answer::refuse(Reason::Contradiction))
+    Err(Reason::Contradiction.into())
 }

@@ -1,14 +1,13 @@
 -- A row of the section table, 40 bytes, the least significant byte of each number first (Microsoft, "PE Format", Section Table (Section
 -- Headers)); and the row at an index of a table.
 -- Assumes nothing.
-use Rattle.std.specs.Prelude.{ℕ, ◌+◌, ◌*◌, List, [], ◌∷◌, false, leb, ltb}
+use Rattle.std.specs.Prelude.{Result, Ok, Err, ℕ, ◌+◌, ◌*◌, List, [], ◌∷◌, false, leb, ltb}
+use Rattle.answer.specs.declared.Refusal.{Refusal}
 use Rattle.answer.specs.Answer.{limit, not_found}
 use Rattle.answer.specs.Test.{must, in_limit}
 use Rattle.fields.specs.Number.{bytes_of}
 use Rattle.layout.specs.Layout.{Field, field, widths, the, reading}
 use Rattle.pe_section.specs.declared.SectionTable.{SectionTable}
-use Rattle.pe_section.specs.declared.ReadSectionTable.{ReadSectionTable}
-use Rattle.pe_section.specs.declared.ReadSectionTable.TheVariants.{Value, Refused}
 
 -- 4.15: offset, width, name
 abbrev pub fields : List Field
@@ -60,8 +59,8 @@ numbers_of r =
     ∷ []
 
 -- 3.6, 7.14: what reading the row at `at` answers: the row, or 1 at the first field that is not whole
-unfoldable pub read_of : List ℕ → ℕ → ReadSectionTable
-read_of s at = reading Refused false fields s at (λ ns. Value (row_of ns))
+unfoldable pub read_of : List ℕ → ℕ → Result SectionTable Refusal
+read_of s at = reading Err false fields s at (λ ns. Ok (row_of ns))
 
 -- 7.2: the eight bytes of a row's name, in file order
 abbrev pub name_bytes_of : SectionTable → List ℕ
@@ -72,13 +71,13 @@ abbrev pub section_limit : ℕ
 section_limit = 96
 
 -- 7.3: the row at an index of the table that starts at `table` and has `count` rows
-unfoldable pub get_row_of : List ℕ → ℕ → ℕ → ℕ → ReadSectionTable
+unfoldable pub get_row_of : List ℕ → ℕ → ℕ → ℕ → Result SectionTable Refusal
 get_row_of s table count index =
     -- 3.1: the file's length comes first
-    in_limit Refused s
+    in_limit Err s
     -- 1.2: a count above 96 is 3
-    (must Refused (leb count section_limit) limit
+    (must Err (leb count section_limit) limit
     -- 3.8: an index at or after the count is 10, before its row is read
-    (must Refused (ltb index count) not_found
+    (must Err (ltb index count) not_found
     -- 7.1: rows follow each other, 40 bytes each
     (read_of s (table + 40 * index))))

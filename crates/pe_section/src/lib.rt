@@ -2,10 +2,10 @@
 #![tactic(auto)]
 
 ghost use Rattle.std.specs.Prelude.{◌≡◌};
-ghost use Rattle.pe_section.specs.Section.{name_bytes_of, read_of, get_row_of};
+ghost use Rattle.pe_section.specs.Section.{numbers_of, name_bytes_of, read_of, get_row_of};
 
-use answer::{Reason, Refusal};
-use cursor::{Cursor, NextU16, NextU32, NextU64};
+use answer::{Numbers, Reason, Refusal};
+use cursor::Cursor;
 
 // The bytes of a row.
 pub const SIZE: usize = 40;
@@ -13,9 +13,7 @@ pub const SIZE: usize = 40;
 // The most sections that a table may have.
 pub const LIMIT: usize = 96;
 
-const LAST: usize = 0xFFFF_FFFF_FFFF_FFFF;
-
-#[derive(Clone, Copy)]
+#[derive(Clone, Copy, Debug, PartialEq, Eq)]
 pub struct SectionTable {
     // The eight bytes of the name as one number, the first the least significant: `name_bytes` hands them out.
     pub name: u64,
@@ -30,112 +28,80 @@ pub struct SectionTable {
     pub characteristics: u32,
 }
 
-#[derive(Clone, Copy)]
-pub enum ReadSectionTable {
-    Value(SectionTable),
-    Refused(Refusal),
-}
-
 impl SectionTable {
     pub fn name_bytes(self) -> [u8; 8]
         ensures { result ≡ name_bytes_of self }
     {
-        let a = self.name;
-        let b = a / 256;
-        let c = b / 256;
-        let d = c / 256;
-        let e = d / 256;
-        let f = e / 256;
-        let g = f / 256;
-        let h = g / 256;
+        self.name.to_le_bytes()
+    }
+}
+
+impl Numbers<10> for SectionTable {
+    ghost numbers = { numbers_of };
+
+    fn numbers(self) -> [u64; 10] {
         [
-            (a % 256) as u8,
-            (b % 256) as u8,
-            (c % 256) as u8,
-            (d % 256) as u8,
-            (e % 256) as u8,
-            (f % 256) as u8,
-            (g % 256) as u8,
-            (h % 256) as u8,
+            self.name,
+            self.virtual_size.into(),
+            self.virtual_address.into(),
+            self.size_of_raw_data.into(),
+            self.pointer_to_raw_data.into(),
+            self.pointer_to_relocations.into(),
+            self.pointer_to_linenumbers.into(),
+            self.number_of_relocations.into(),
+            self.number_of_linenumbers.into(),
+            self.characteristics.into(),
         ]
     }
 }
 
 // The row at an index of the table that starts at `table` and has `count` rows.
-pub fn get_row(file: &[u8], table: usize, count: usize, index: usize) -> ReadSectionTable
+pub fn get_row(
+    file: &[u8],
+    table: usize,
+    count: usize,
+    index: usize,
+) -> Result<SectionTable, Refusal>
     ensures { result ≡ get_row_of file.now table count index }
 {
-    if answer::FILE_LIMIT < file.len() {
-        return ReadSectionTable::Refused(answer::refuse(Reason::Limit));
-    }
-    if LIMIT < count {
-        return ReadSectionTable::Refused(answer::refuse(Reason::Limit));
+    if answer::FILE_LIMIT < file.len() || LIMIT < count {
+        return Err(Reason::Limit.into());
     }
     if count <= index {
-        return ReadSectionTable::Refused(answer::refuse(Reason::NotFound));
+        return Err(Reason::NotFound.into());
     }
-    let from = SIZE * index;
-    // A row past 64 bits is in no file.
-    if LAST - from < table {
-        return ReadSectionTable::Refused(answer::beyond());
-    }
-    read(file, table + from)
+    let Some(at) = table.checked_add(SIZE * index) else {
+        // A row past 64 bits is in no file.
+        return Err(answer::beyond());
+    };
+    read(file, at)
 }
 
 // The row at `at`.
-pub fn read(s: &[u8], at: usize) -> ReadSectionTable
+pub fn read(s: &[u8], at: usize) -> Result<SectionTable, Refusal>
     ensures { result ≡ read_of s.now at }
 {
-    let name = match Cursor::new(at).next_u64(s, false) {
-        NextU64::Value(t) => t,
-        NextU64::Refused(k) => return ReadSectionTable::Refused(k),
-    };
-    let virtual_size = match name.next.next_u32(s, false) {
-        NextU32::Value(t) => t,
-        NextU32::Refused(k) => return ReadSectionTable::Refused(k),
-    };
-    let virtual_address = match virtual_size.next.next_u32(s, false) {
-        NextU32::Value(t) => t,
-        NextU32::Refused(k) => return ReadSectionTable::Refused(k),
-    };
-    let size_of_raw_data = match virtual_address.next.next_u32(s, false) {
-        NextU32::Value(t) => t,
-        NextU32::Refused(k) => return ReadSectionTable::Refused(k),
-    };
-    let pointer_to_raw_data = match size_of_raw_data.next.next_u32(s, false) {
-        NextU32::Value(t) => t,
-        NextU32::Refused(k) => return ReadSectionTable::Refused(k),
-    };
-    let pointer_to_relocations = match pointer_to_raw_data.next.next_u32(s, false) {
-        NextU32::Value(t) => t,
-        NextU32::Refused(k) => return ReadSectionTable::Refused(k),
-    };
-    let pointer_to_linenumbers = match pointer_to_relocations.next.next_u32(s, false) {
-        NextU32::Value(t) => t,
-        NextU32::Refused(k) => return ReadSectionTable::Refused(k),
-    };
-    let number_of_relocations = match pointer_to_linenumbers.next.next_u16(s, false) {
-        NextU16::Value(t) => t,
-        NextU16::Refused(k) => return ReadSectionTable::Refused(k),
-    };
-    let number_of_linenumbers = match number_of_relocations.next.next_u16(s, false) {
-        NextU16::Value(t) => t,
-        NextU16::Refused(k) => return ReadSectionTable::Refused(k),
-    };
-    let characteristics = match number_of_linenumbers.next.next_u32(s, false) {
-        NextU32::Value(t) => t,
-        NextU32::Refused(k) => return ReadSectionTable::Refused(k),
-    };
-    ReadSectionTable::Value(SectionTable {
-        name: name.value,
-        virtual_size: virtual_size.value,
-        virtual_address: virtual_address.value,
-        size_of_raw_data: size_of_raw_data.value,
-        pointer_to_raw_data: pointer_to_raw_data.value,
-        pointer_to_relocations: pointer_to_relocations.value,
-        pointer_to_linenumbers: pointer_to_linenumbers.value,
-        number_of_relocations: number_of_relocations.value,
-        number_of_linenumbers: number_of_linenumbers.value,
-        characteristics: characteristics.value,
+    let mut cursor = Cursor::new(at);
+    let name = cursor.next(s, false)?;
+    let virtual_size = cursor.next(s, false)?;
+    let virtual_address = cursor.next(s, false)?;
+    let size_of_raw_data = cursor.next(s, false)?;
+    let pointer_to_raw_data = cursor.next(s, false)?;
+    let pointer_to_relocations = cursor.next(s, false)?;
+    let pointer_to_linenumbers = cursor.next(s, false)?;
+    let number_of_relocations = cursor.next(s, false)?;
+    let number_of_linenumbers = cursor.next(s, false)?;
+    let characteristics = cursor.next(s, false)?;
+    Ok(SectionTable {
+        name,
+        virtual_size,
+        virtual_address,
+        size_of_raw_data,
+        pointer_to_raw_data,
+        pointer_to_relocations,
+        pointer_to_linenumbers,
+        number_of_relocations,
+        number_of_linenumbers,
+        characteristics,
     })
 }

@@ -1,13 +1,13 @@
 -- A stop: inside a prolog at a distance, or after the whole prolog and a body; what a body may change; which stack words tell the caller;
 -- and when no address leaves 64 bits. All is said of the machine's run.
 -- Assumes nothing.
-use Rattle.std.specs.Prelude.{ℕ, ◌+◌, ◌-◌, ◌*◌, ◌%◌, ◌^◌, ◌≤◌, ◌<◌, ◌≡◌, ◌≢◌, ◌⊎◌, List, [], ◌∷◌, ◌++◌, Bool, true, false, length, get_or, leb}
+use Rattle.std.specs.Prelude.{ℕ, ◌+◌, ◌-◌, ◌*◌, ◌%◌, ◌^◌, ◌≤◌, ◌<◌, ◌≡◌, ◌≢◌, ◌⊎◌, List, [], ◌∷◌, ◌++◌, Bool, true, false, Some, length, get_or, leb}
 use Rattle.answer.specs.Test.{pick}
 use Rattle.unwind_operation.specs.declared.UnwindOperation.{UnwindOperation}
 use Rattle.unwind_operation.specs.declared.UnwindOperation.TheVariants.{PushNonVolatile, Alloc, SetFPRegister, SaveNonVolatile, SaveXMM}
 use Rattle.unwind_operation.specs.declared.UnwindOperation.TheVariants.{Epilog, SaveXMM128, PushMachineFrame, Noop}
 use Rattle.unwind_array.specs.Arrays.{Frame, Arrays, ChainCode, codes_in, outer_codes, joined_of}
-use Rattle.unwind_state.specs.State.{gpr, Window, held, word_at}
+use Rattle.unwind_state.specs.State.{gpr, Window, word_at}
 use Rattle.unwind_state.specs.declared.State.{State}
 use Rattle.unwind_undo.specs.Undo.{place_of, xmm_number}
 use Rattle.unwind_undo.specs.Distance.{Distance, at, whole}
@@ -268,7 +268,7 @@ pub record Reaches (entry : Entry) (a : Arrays) (d : Distance) (m n : Machine) :
 
 -- a window holds words of a memory
 abbrev pub Holds : Window → Memory → List ℕ → Type 0
-Holds w memory xs = Every (λ x. word_at w x ≡ held (memory x)) xs
+Holds w memory xs = Every (λ x. word_at w x ≡ Some (memory x)) xs
 
 -- 19.3: A window as a driver has it: a part of the memory at a multiple of 8 that reaches from the lowest to the highest of some addresses.
 pub record Spans (w : Window) (memory : Memory) (xs : List ℕ) : Type 0 where

@@ -1,6 +1,7 @@
 -- Undoing acts in array order gives back what they owe: by induction on the array, from a state in which RSP, or the frame register where
 -- it was set, is right. All other registers may be wrong: what is owed comes from the stack, and what is not owed stays.
 -- Assumes nothing.
+use Rattle.std.specs.Prelude.{Some}
 use mathlib.Core.Path.{◌≡◌, refl, sym, ap, ◌∙◌, subst}
 use mathlib.Core.Logic.{◌≢◌, ◌⊎◌, inl, inr}
 use mathlib.Core.Bool.{Bool, true, false}
@@ -12,7 +13,7 @@ use lib.ListN.{length, get_or, set, length-set}
 use lib.Seq.{get_or-set_same, get_or-set_other}
 use borrow.Author.Tests.{lt-ltb, le-leb}
 use Rattle.unwind_array.specs.Arrays.{Frame}
-use Rattle.unwind_state.specs.State.{gpr, rsp, with_gpr, with_rsp, with_rip, with_xmm, Window, held, word_at}
+use Rattle.unwind_state.specs.State.{gpr, rsp, with_gpr, with_rsp, with_rip, with_xmm, Window, word_at}
 use Rattle.unwind_state.specs.declared.State.{State}
 use Rattle.unwind_undo.specs.Undo.{Undone, on, caller, within, less, word, Base, undo_push}
 use Rattle.unwind_undo.specs.Undo.{undo_alloc, undo_set_frame, undo_save, undo_save_xmm, undo_machine_frame, last_step, and_then}
@@ -119,7 +120,7 @@ pub record Result (entry : Entry) (m : Machine) (xs ys : List ℕ) (s : State) (
   pub general : Mends (λ x. x ≢ 4) xs m.registers.gpr s.gpr state.gpr
   pub xmm : Mends (λ x. Unit {0}) ys m.registers.xmm s.xmm state.xmm
 
-word_is : (w : Window) (a v : ℕ) (k : ℕ → Undone) → a < 2 ^ 64 → word_at w a ≡ held v → word w a k ≡ k v
+word_is : (w : Window) (a v : ℕ) (k : ℕ → Undone) → a < 2 ^ 64 → word_at w a ≡ Some v → word w a k ≡ k v
 word_is w a v k h e = rw (lt-ltb a (2 ^ 64) h, e)
 
 within_is : (a : ℕ) (k : ℕ → Undone) → a < 2 ^ 64 → within a k ≡ k a

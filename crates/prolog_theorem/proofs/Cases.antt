@@ -12,7 +12,7 @@ use Rattle.unwind_operation.specs.declared.StackFrameOffset.TheVariants.{RSP, FP
 use Rattle.unwind_operation.specs.declared.UnwindOperation.TheVariants.{PushNonVolatile, Alloc, SetFPRegister}
 use Rattle.unwind_operation.specs.declared.UnwindOperation.TheVariants.{SaveNonVolatile, SaveXMM128, PushMachineFrame}
 use Rattle.unwind_array.specs.Arrays.{Arrays, joined_of}
-use Rattle.unwind_state.specs.State.{gpr, with_rsp, with_rip, with_gpr, with_xmm, word_at}
+use Rattle.unwind_state.specs.State.{with_rsp, with_rip, with_gpr, with_xmm, word_at}
 use Rattle.unwind_state.specs.declared.State.{State}
 use Rattle.unwind_undo.specs.Undo.{caller, lost, undo_of, undo_from, last_step, base_when_undone, unwind_of}
 use Rattle.unwind_undo.specs.Distance.{at, whole, undone_of}

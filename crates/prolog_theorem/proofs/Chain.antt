@@ -1,10 +1,11 @@
 -- From arrays that the strict check accepts, a stop and a window, to what undoing comes to.
 -- Assumes nothing.
+use Rattle.std.specs.Prelude.{Some}
 use mathlib.Core.Path.{◌≡◌, refl, sym, ap, ◌∙◌}
 use mathlib.Core.Logic.{◌≢◌, ◌⊎◌, inl, inr}
 use mathlib.Core.Bool.{Bool, true, false, not}
 use mathlib.Core.List.{List, [], ◌∷◌}
-use Prim.Native.Nat.{ℕ, ◌+◌, ◌-◌, ◌*◌, ◌/◌}
+use Prim.Native.Nat.{ℕ, ◌+◌, ◌*◌, ◌/◌}
 use native.Mathlib.Decide.{ℕ_discrete}
 use native.Mathlib.Omega.{arith}
 use lib.ListN.{length, get_or, set, length-set}
@@ -12,10 +13,10 @@ use lib.Seq.{get_or-set_same, get_or-set_other, ext_get_or}
 use lib.Dec.{leb, eqb}
 use borrow.Author.Tests.{eqb-true, eqb-false, eq-eqb, not-true}
 use Rattle.unwind_array.specs.Arrays.{Frame, Arrays, ChainCode, outer_codes, joined_of}
-use Rattle.unwind_state.specs.State.{gpr, rsp, Window, held}
+use Rattle.unwind_state.specs.State.{gpr, rsp, Window}
 use Rattle.unwind_state.specs.declared.State.{State}
 use Rattle.unwind_undo.specs.Undo.{Undone, caller, Base, BaseRule, base_when_undone, is_set_frame, framed_by, unwind_of}
-use Rattle.unwind_undo.specs.Distance.{Distance, at, undone_of}
+use Rattle.unwind_undo.specs.Distance.{Distance, undone_of}
 use Rattle.unwind_operation.specs.declared.UnwindOperation.{UnwindOperation}
 use Rattle.unwind_operation.specs.declared.UnwindOperation.TheVariants.{PushNonVolatile, Alloc, SetFPRegister, SaveNonVolatile, SaveXMM}
 use Rattle.unwind_operation.specs.declared.UnwindOperation.TheVariants.{Epilog, SaveXMM128, PushMachineFrame, Noop}
@@ -183,7 +184,7 @@ every_of P (x ∷ xs) h = (h x, every_of P xs h)
 pub holds_agreed : (w : Window) (later earlier : Memory) (xs : List ℕ) → Holds w later xs → Every (λ x. later x ≡ earlier x) xs
     → Holds w earlier xs
 holds_agreed w later earlier [] h e = tt
-holds_agreed w later earlier (x ∷ xs) h e = (h.0 ∙ ap held e.0, holds_agreed w later earlier xs h.1 e.1)
+holds_agreed w later earlier (x ∷ xs) h e = (h.0 ∙ ap Some e.0, holds_agreed w later earlier xs h.1 e.1)
 
 -- whatever the rule for the base, if it serves
 pub unwound : (rule : BaseRule) (w : Window) (entry : Entry) (a : Arrays) (d : Distance) (m n : Machine) → Chain a d

@@ -1,10 +1,10 @@
 -- What has run at a distance: what is undone, the acts of a later part of the chain, and past the prolog all of them.
 -- Assumes nothing.
 use mathlib.Core.Path.{◌≡◌, refl, sym, ap, ◌∙◌}
-use mathlib.Core.Logic.{◌⊎◌, ⊎_elim}
+use mathlib.Core.Logic.{⊎_elim}
 use mathlib.Core.Bool.{Bool, true, false, ◌||◌}
 use mathlib.Core.List.{List, [], ◌∷◌, ◌++◌}
-use Prim.Native.Nat.{ℕ, ◌+◌}
+use Prim.Native.Nat.{ℕ}
 use native.Mathlib.Omega.{arith}
 use lib.Dec.{leb, eqb}
 use borrow.Author.Tests.{leb-true, le-leb, eqb-true}
@@ -18,7 +18,7 @@ use Rattle.unwind_undo.specs.Distance.{Distance, at, whole, has_run, undone_of}
 use Rattle.strict_prolog.specs.Strict.{every, some, strict_kind, is_epilog, offsets_of, never_rise}
 use Rattle.strict_prolog.specs.Strict.{operations_of, operations_in, same_frame}
 use Rattle.prolog_machine.specs.Stop.{reached, up_to, ran_of, PastProlog}
-use Rattle.prolog_theorem.proofs.Acts.{Act, frame, Good}
+use Rattle.prolog_theorem.proofs.Acts.{Act, Good}
 use Rattle.prolog_theorem.proofs.Base.{After}
 use Rattle.prolog_theorem.proofs.Codes.{act_of, ops_of, acts_of, Plain}
 use Rattle.prolog_theorem.proofs.Cross.{both, either, right_true, not_both}

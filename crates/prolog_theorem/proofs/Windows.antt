@@ -1,5 +1,6 @@
 -- The words that tell the caller lie at multiples of 8 where RSP at entry does: so a window that spans them holds them.
 -- Assumes nothing.
+use Rattle.std.specs.Prelude.{Some}
 use mathlib.Core.Path.{◌≡◌, refl, ap, ◌∙◌}
 use mathlib.Core.Logic.{◌≢◌}
 use mathlib.Core.Bool.{Bool, true, false}
@@ -13,7 +14,7 @@ use Rattle.unwind_operation.specs.declared.UnwindOperation.{UnwindOperation}
 use Rattle.unwind_operation.specs.declared.UnwindOperation.TheVariants.{PushNonVolatile, Alloc, SetFPRegister, SaveNonVolatile, SaveXMM}
 use Rattle.unwind_operation.specs.declared.UnwindOperation.TheVariants.{Epilog, SaveXMM128, PushMachineFrame, Noop}
 use Rattle.unwind_array.specs.Arrays.{Frame, Arrays, ChainCode, codes_in, outer_codes, joined_of}
-use Rattle.unwind_state.specs.State.{Window, held, word_at}
+use Rattle.unwind_state.specs.State.{Window, word_at}
 use Rattle.unwind_undo.specs.Undo.{place_of}
 use Rattle.unwind_undo.specs.Distance.{Distance}
 use Rattle.strict_prolog.specs.Strict.{every, aligned, strict}
@@ -31,14 +32,14 @@ use Rattle.prolog_theorem.proofs.Chain.{strict_enough, chain}
 -- ---- a window that spans words at multiples of 8 holds them
 
 span_one : (w : Window) (memory : Memory) (x : ℕ) → w.base % 8 ≡ 0 → x % 8 ≡ 0 → w.base ≤ x → x < w.base + 8 * length w.words
-    → ((i : ℕ) → i < length w.words → get_or w.words i 0 ≡ memory (w.base + 8 * i)) → word_at w x ≡ held (memory x)
+    → ((i : ℕ) → i < length w.words → get_or w.words i 0 ≡ memory (w.base + 8 * i)) → word_at w x ≡ Some (memory x)
 unfolding word_at
 span_one w memory x wb xb low high words =
     let i : ℕ = (x - w.base) / 8 in
     let e : w.base + 8 * i ≡ x = omega arith in
     let h : i < length w.words = omega arith in
     rw (eq-eqb (w.base % 8) 0 wb, eq-eqb (x % 8) 0 xb, le-leb w.base x low, lt-ltb i (length w.words) h)
-    (ap held (words i h ∙ ap memory e))
+    (ap Some (words i h ∙ ap memory e))
 
 pub spans_hold : (w : Window) (memory : Memory) (xs : List ℕ) → Spans w memory xs → Every (λ x. x % 8 ≡ 0) xs → Holds w memory xs
 spans_hold w memory xs s = go xs s.low s.high

@@ -1,5 +1,6 @@
 -- The words that acts put down are still there at the end: no act writes where an earlier one did, nor on the caller's words.
 -- Assumes nothing.
+use Rattle.std.specs.Prelude.{Some}
 use mathlib.Core.Path.{◌≡◌, refl, sym, ap, ◌∙◌}
 use mathlib.Core.Logic.{◌≢◌, ◌⊎◌, inl, inr, ⊎_elim}
 use mathlib.Core.Bool.{Bool, true, false}
@@ -8,7 +9,7 @@ use Prim.Native.Nat.{ℕ, ◌+◌, ◌-◌, ◌≤◌, ◌<◌}
 use native.Mathlib.Omega.{arith}
 use lib.ListN.{length}
 use Rattle.unwind_array.specs.Arrays.{Frame}
-use Rattle.unwind_state.specs.State.{gpr, Window, held, word_at}
+use Rattle.unwind_state.specs.State.{gpr, Window, word_at}
 use Rattle.prolog_machine.specs.Machine.{Memory, Machine, rsp_of, write, xmm_low, xmm_high, Entry, error_bytes, push_frame}
 use Rattle.prolog_machine.specs.Stop.{NotIn, Holds}
 use Rattle.prolog_theorem.proofs.Acts.{Act, push, alloc, frame, save, save_xmm, trap, acts, places, pushed}
@@ -134,16 +135,16 @@ module _ (entry : Entry) (f : Frame) (mf : Bool) (m : Machine) (f4 : f.register 
 module _ (w : Window) where
   -- each word as its act put it down
   abbrev pub HoldsActs : Entry → Frame → List Act → Machine → Type 0
-  HoldsActs entry f [] m = word_at w (rsp_of m) ≡ held (m.memory (rsp_of m))
+  HoldsActs entry f [] m = word_at w (rsp_of m) ≡ Some (m.memory (rsp_of m))
   HoldsActs entry f (push r ∷ cs) m =
-      (word_at w (rsp_of (acts entry f cs m) - 8) ≡ held (gpr (acts entry f cs m).registers r)) × HoldsActs entry f cs m
+      (word_at w (rsp_of (acts entry f cs m) - 8) ≡ Some (gpr (acts entry f cs m).registers r)) × HoldsActs entry f cs m
   HoldsActs entry f (alloc n ∷ cs) m = HoldsActs entry f cs m
   HoldsActs entry f (frame ∷ cs) m = HoldsActs entry f cs m
   HoldsActs entry f (save r o ∷ cs) m =
-      (word_at w (rsp_of (acts entry f cs m) + o) ≡ held (gpr (acts entry f cs m).registers r)) × HoldsActs entry f cs m
+      (word_at w (rsp_of (acts entry f cs m) + o) ≡ Some (gpr (acts entry f cs m).registers r)) × HoldsActs entry f cs m
   HoldsActs entry f (save_xmm x o ∷ cs) m =
-      (word_at w (rsp_of (acts entry f cs m) + o) ≡ held (xmm_low (acts entry f cs m) x))
-      × (word_at w (rsp_of (acts entry f cs m) + o + 8) ≡ held (xmm_high (acts entry f cs m) x))
+      (word_at w (rsp_of (acts entry f cs m) + o) ≡ Some (xmm_low (acts entry f cs m) x))
+      × (word_at w (rsp_of (acts entry f cs m) + o + 8) ≡ Some (xmm_high (acts entry f cs m) x))
       × HoldsActs entry f cs m
   HoldsActs entry f (trap e ∷ cs) m =
       Holds w (push_frame entry e (acts entry f cs m)).memory (needs entry f (trap e ∷ cs) m)
@@ -151,31 +152,31 @@ module _ (w : Window) where
   holds_other : (mem : Memory) (a v : ℕ) (zs : List ℕ) → NotIn a zs → Holds w (write mem a v) zs → Holds w mem zs
   holds_other mem a v [] n h = tt
   holds_other mem a v (z ∷ zs) n h =
-      (h.0 ∙ ap held (write_other mem a v z (λ e. n.0 (sym e))), holds_other mem a v zs n.1 h.1)
+      (h.0 ∙ ap Some (write_other mem a v z (λ e. n.0 (sym e))), holds_other mem a v zs n.1 h.1)
 
   pub there : (entry : Entry) (f : Frame) (m : Machine) (cs : List Act) → Distinct (needs entry f cs m)
       → Holds w (acts entry f cs m).memory (needs entry f cs m) → HoldsActs entry f cs m
   there entry f m [] d h = h.0
   there entry f m (push r ∷ cs) d h =
       let p : Machine = acts entry f cs m in (
-        h.0 ∙ ap held (write_same p.memory (rsp_of p - 8) (gpr p.registers r)),
+        h.0 ∙ ap Some (write_same p.memory (rsp_of p - 8) (gpr p.registers r)),
         there entry f m cs d.1 (holds_other p.memory (rsp_of p - 8) _ (needs entry f cs m) d.0 h.1),
       )
   there entry f m (alloc n ∷ cs) d h = there entry f m cs d h
   there entry f m (frame ∷ cs) d h = there entry f m cs d h
   there entry f m (save r o ∷ cs) d h =
       let p : Machine = acts entry f cs m in (
-        h.0 ∙ ap held (write_same p.memory (rsp_of p + o) (gpr p.registers r)),
+        h.0 ∙ ap Some (write_same p.memory (rsp_of p + o) (gpr p.registers r)),
         there entry f m cs d.1 (holds_other p.memory (rsp_of p + o) _ (needs entry f cs m) d.0 h.1),
       )
   there entry f m (save_xmm x o ∷ cs) d h =
       let p : Machine = acts entry f cs m in
       let mem : Memory = write p.memory (rsp_of p + o) (xmm_low p x) in (
         h.0
-            ∙ ap held
+            ∙ ap Some
             (write_other mem (rsp_of p + o + 8) (xmm_high p x) (rsp_of p + o) (λ e. omega arith)
             ∙ write_same p.memory (rsp_of p + o) (xmm_low p x)),
-        h.1.0 ∙ ap held (write_same mem (rsp_of p + o + 8) (xmm_high p x)),
+        h.1.0 ∙ ap Some (write_same mem (rsp_of p + o + 8) (xmm_high p x)),
         there entry f m cs d.1.1
             (holds_other p.memory (rsp_of p + o) _ (needs entry f cs m) d.0.1
             (holds_other mem (rsp_of p + o + 8) _ (needs entry f cs m) d.1.0 h.1.1)),

@@ -3,58 +3,47 @@
 
 ghost use Rattle.std.specs.Prelude.{◌≡◌};
 ghost use Rattle.fields.specs.Field.{write_of};
-ghost use Rattle.runtime_function.specs.RuntimeFunction.{read_of, write_out};
+ghost use Rattle.runtime_function.specs.RuntimeFunction.{numbers_of, read_of, write_out};
 
-use answer::{Reason, Refusal};
-use cursor::{Cursor, NextU32};
-use fields::WriteBytes;
+use answer::{Numbers, Reason, Refusal};
+use cursor::Cursor;
+use fields::Unsigned;
 
 pub const SIZE: usize = 12;
 
-#[derive(Clone, Copy)]
+#[derive(Clone, Copy, Debug, PartialEq, Eq)]
 pub struct RuntimeFunction {
     pub begin: u32,
     pub end: u32,
     pub unwind: u32,
 }
 
-#[derive(Clone, Copy)]
-pub enum ReadRuntimeFunction {
-    Value(RuntimeFunction),
-    Refused(Refusal),
+impl Numbers<3> for RuntimeFunction {
+    ghost numbers = { numbers_of };
+
+    fn numbers(self) -> [u64; 3] {
+        [self.begin.into(), self.end.into(), self.unwind.into()]
+    }
 }
 
-pub fn read(s: &[u8], at: usize) -> ReadRuntimeFunction
+pub fn read(s: &[u8], at: usize) -> Result<RuntimeFunction, Refusal>
     ensures { result ≡ read_of s.now at }
 {
-    let begin = match Cursor::new(at).next_u32(s, false) {
-        NextU32::Value(t) => t,
-        NextU32::Refused(k) => return ReadRuntimeFunction::Refused(k),
-    };
-    let end = match begin.next.next_u32(s, false) {
-        NextU32::Value(t) => t,
-        NextU32::Refused(k) => return ReadRuntimeFunction::Refused(k),
-    };
-    let unwind = match end.next.next_u32(s, false) {
-        NextU32::Value(t) => t,
-        NextU32::Refused(k) => return ReadRuntimeFunction::Refused(k),
-    };
-    ReadRuntimeFunction::Value(RuntimeFunction {
-        begin: begin.value,
-        end: end.value,
-        unwind: unwind.value,
-    })
+    let mut cursor = Cursor::new(at);
+    let begin = cursor.next(s, false)?;
+    let end = cursor.next(s, false)?;
+    let unwind = cursor.next(s, false)?;
+    Ok(RuntimeFunction { begin, end, unwind })
 }
 
-pub fn write(out: &mut [u8], at: usize, e: RuntimeFunction) -> WriteBytes
+pub fn write(out: &mut [u8], at: usize, e: RuntimeFunction) -> Result<(), Refusal>
     ensures { (result ≡ write_of 12 out.old at) × (out.new ≡ write_out out.old at e) }
 {
     if fields::fits(out.len(), at, SIZE) {
-        // There is room for the record, so none of these is refused.
-        fields::write_u32(out, at, e.begin, false);
-        fields::write_u32(out, at + 4, e.end, false);
-        fields::write_u32(out, at + 8, e.unwind, false);
-        return WriteBytes::Done;
+        e.begin.write(out, at, false)?;
+        e.end.write(out, at + 4, false)?;
+        e.unwind.write(out, at + 8, false)?;
+        return Ok(());
     }
-    WriteBytes::Refused(answer::refuse(Reason::Room))
+    Err(Reason::Room.into())
 }

@@ -1,5 +1,8 @@
 -- The definitions on small inputs, by computation.
 -- Assumes nothing.
+use Rattle.runtime_lookup.specs.declared.Holder.{Holder}
+use Rattle.std.specs.Prelude.{Result, Ok, Err}
+use Rattle.answer.specs.declared.Refusal.{Refusal}
 use mathlib.Core.Path.{◌≡◌, refl}
 use mathlib.Core.List.{List, [], ◌∷◌, ◌++◌}
 use mathlib.Core.Bool.{false}
@@ -16,16 +19,14 @@ use Rattle.exception_data.specs.declared.ExceptionData.{ExceptionData}
 use Rattle.exception_data.specs.declared.RecordForm.TheVariants.{X64}
 use Rattle.runtime_lookup.specs.Halving.{Holds, ended, search_from, among, halving}
 use Rattle.runtime_lookup.specs.Lookup.{sought_at, find_function_of, check_and_find_of}
-use Rattle.runtime_lookup.specs.declared.CheckAndFind.{CheckAndFind}
-use Rattle.runtime_lookup.specs.declared.CheckAndFind.TheVariants.{Value, Refused}
 
 -- the bytes of a record from `begin` to `end`
 abbrev bytes : ℕ → ℕ → List ℕ
 bytes begin end = write_by false runtime_function (begin ∷ end ∷ 4096 ∷ [])
 
 -- the answer of the record from `begin` to `end` at `index`
-abbrev answer : ℕ → ℕ → ℕ → CheckAndFind
-answer begin end index = Value (record { function = record { begin = begin; end = end; unwind = 4096 }; index = index })
+abbrev answer : ℕ → ℕ → ℕ → Result Holder Refusal
+answer begin end index = Ok (record { function = record { begin = begin; end = end; unwind = 4096 }; index = index })
 
 -- a table, as opening answers it
 abbrev opened : ℕ → ℕ → ExceptionData
@@ -36,7 +37,7 @@ one_begin : find_function_of (bytes 16 32) (opened 0 1) 16 ≡ answer 16 32 0
 unfolding find_function_of must sought_at halving among search_from table_of numbers_at get_entry_of read_of read_by number_at write_by bytes_of
 one_begin = refl
 
-one_before : find_function_of (bytes 16 32) (opened 0 1) 15 ≡ Refused (refuse_of not_found)
+one_before : find_function_of (bytes 16 32) (opened 0 1) 15 ≡ Err (refuse_of not_found)
 unfolding find_function_of must sought_at halving among search_from table_of numbers_at get_entry_of read_of read_by number_at write_by bytes_of
 one_before = refl
 
@@ -44,7 +45,7 @@ one_last : find_function_of (bytes 16 32) (opened 0 1) 31 ≡ answer 16 32 0
 unfolding find_function_of must sought_at halving among search_from table_of numbers_at get_entry_of read_of read_by number_at write_by bytes_of
 one_last = refl
 
-one_end : find_function_of (bytes 16 32) (opened 0 1) 32 ≡ Refused (refuse_of not_found)
+one_end : find_function_of (bytes 16 32) (opened 0 1) 32 ≡ Err (refuse_of not_found)
 unfolding find_function_of must sought_at halving among search_from table_of numbers_at get_entry_of read_of read_by number_at write_by bytes_of
 one_end = refl
 
@@ -57,7 +58,7 @@ unfolding find_function_of must sought_at halving among search_from table_of num
 first_looked_at = refl
 
 -- the door that checks the table refuses it
-unordered_checked : check_and_find_of unordered (opened 0 3) 132 ≡ Refused (refuse_of order)
+unordered_checked : check_and_find_of unordered (opened 0 3) 132 ≡ Err (refuse_of order)
 unfolding check_and_find_of check_of lies_of ordered each find_function_of must sought_at halving among search_from table_of numbers_at get_entry_of
     read_of read_by number_at write_by bytes_of
 unordered_checked = refl
@@ -70,7 +71,7 @@ two_looked_at : halving (table_of two 0) 16 2 ≡ ended (Holds 0) 2
 unfolding halving among search_from table_of numbers_at number_at write_by bytes_of
 two_looked_at = refl
 
-between : check_and_find_of two (opened 0 2) 40 ≡ Refused (refuse_of not_found)
+between : check_and_find_of two (opened 0 2) 40 ≡ Err (refuse_of not_found)
 unfolding check_and_find_of check_of lies_of ordered each find_function_of must sought_at halving among search_from table_of numbers_at get_entry_of
     read_of read_by number_at write_by bytes_of
 between = refl
@@ -81,25 +82,25 @@ unfolding find_function_of must sought_at halving among search_from table_of num
 cut_after = refl
 
 -- .. and is 1 where one of them is not whole, though its begin and end are there
-cut_at : find_function_of (take 35 (bytes 16 32 ++ bytes 48 64 ++ bytes 80 96)) (opened 0 3) 80 ≡ Refused (refuse_of short)
+cut_at : find_function_of (take 35 (bytes 16 32 ++ bytes 48 64 ++ bytes 80 96)) (opened 0 3) 80 ≡ Err (refuse_of short)
 unfolding find_function_of must sought_at halving among search_from table_of numbers_at get_entry_of read_of read_by number_at write_by bytes_of cut_of
 cut_at = refl
 
 -- the door that checks the table needs all of it
-cut_checked : check_and_find_of (take 35 (bytes 16 32 ++ bytes 48 64 ++ bytes 80 96)) (opened 0 3) 16 ≡ Refused (refuse_of short)
+cut_checked : check_and_find_of (take 35 (bytes 16 32 ++ bytes 48 64 ++ bytes 80 96)) (opened 0 3) 16 ≡ Err (refuse_of short)
 unfolding check_and_find_of check_of lies_of must write_by bytes_of cut_of
 cut_checked = refl
 
 -- no records, wherever the table is said to be, in both doors
-no_records : find_function_of [] (opened 18446744073709551615 0) 0 ≡ Refused (refuse_of not_found)
+no_records : find_function_of [] (opened 18446744073709551615 0) 0 ≡ Err (refuse_of not_found)
 unfolding find_function_of must halving among search_from
 no_records = refl
 
-no_records_checked : check_and_find_of [] (opened 18446744073709551615 0) 0 ≡ Refused (refuse_of not_found)
+no_records_checked : check_and_find_of [] (opened 18446744073709551615 0) 0 ≡ Err (refuse_of not_found)
 unfolding check_and_find_of check_of lies_of ordered each find_function_of must halving among search_from
 no_records_checked = refl
 
 -- the record that is looked at first is past 64 bits
-past_64_bits : find_function_of [] (opened 18446744073709551615 3) 4294967295 ≡ Refused (refuse_of short)
+past_64_bits : find_function_of [] (opened 18446744073709551615 3) 4294967295 ≡ Err (refuse_of short)
 unfolding find_function_of must sought_at halving among search_from table_of get_entry_of read_of read_by cut_of beyond_of
 past_64_bits = refl

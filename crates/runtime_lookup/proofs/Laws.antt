@@ -1,16 +1,17 @@
 -- What the proofs of the functions cite: the invariant of a search and what each outcome of a turn makes of it, and the answers of a
 -- lookup.
 -- Assumes nothing.
+use Rattle.std.specs.Prelude.{Result, Ok, Err, Option, Some, None}
+use Rattle.answer.specs.Answer.{on_ok, refuse_of, limit, not_found}
 use mathlib.Core.Path.{◌≡◌, refl, sym, ap, ◌∙◌}
 use mathlib.Core.List.{List}
 use mathlib.Core.Bool.{Bool, true, false}
-use Prim.Native.Nat.{ℕ, suc, ◌+◌, ◌-◌, ◌*◌, ◌≤◌, ◌<◌}
+use Prim.Native.Nat.{ℕ, suc, ◌+◌, ◌*◌, ◌≤◌, ◌<◌}
 use native.Mathlib.Nat.{zero-add, add_assoc}
 use native.Mathlib.Numerals.{add-one}
 use native.Mathlib.Omega.{arith}
 use lib.ListN.{length, get_or}
 use borrow.Author.Tests.{le-leb, lt-leb}
-use Rattle.answer.specs.Answer.{refuse_of, limit, not_found}
 use Rattle.answer.specs.Test.{must, file_limit}
 use Rattle.answer.specs.declared.Reason.{Reason}
 use Rattle.answer.specs.declared.Refusal.{Refusal}
@@ -19,23 +20,16 @@ use Rattle.fields.specs.Number.{number_at}
 use Rattle.fields.proofs.Number.{number_joined, number_one}
 use Rattle.layout.specs.Layout.{numbers_at}
 use Rattle.runtime_function.specs.declared.RuntimeFunction.{RuntimeFunction}
-use Rattle.runtime_function.specs.declared.ReadRuntimeFunction.{ReadRuntimeFunction}
-use Rattle.runtime_function.specs.declared.ReadRuntimeFunction.TheVariants as found
-use Rattle.runtime_function.specs.Answers.{on_read_runtime_function}
 use Rattle.runtime_table.specs.Table.{Table, place_of, table_of, runtime_at, get_entry_of, lies_of}
 use Rattle.runtime_table.specs.Check.{check_of}
-use Rattle.runtime_table.specs.declared.CheckTable.{CheckTable}
-use Rattle.runtime_table.specs.declared.CheckTable.TheVariants as checked
 use Rattle.runtime_table.proofs.Laws.{Whole, entry_is, entry_whole, entry_past, seen_there, seen_begin, seen_end, seen_gone, lies_there, never_both}
 use Rattle.exception_data.specs.declared.ExceptionData.{ExceptionData}
 use Rattle.runtime_lookup.specs.Halving.{Ending, Holds, Gone, Nothing, Halved, middle, ended, plus, among, halving}
-use Rattle.runtime_lookup.specs.Lookup.{sought_at, sought_by, find_function_of, check_and_find_of, read_limit}
+use Rattle.runtime_lookup.specs.Lookup.{sought_at, sought_by, find_function_of, check_and_find_of, read_limit, uncounted, CountedReads}
 use Rattle.runtime_lookup.specs.Code.{search_of, end_of, Looked, Searches}
-use Rattle.runtime_lookup.specs.declared.SearchEnd.TheVariants as code
 use Rattle.runtime_lookup.specs.declared.Search.{Search}
+use Rattle.runtime_lookup.specs.declared.Found.{Found}
 use Rattle.runtime_lookup.specs.declared.Holder.{Holder}
-use Rattle.runtime_lookup.specs.declared.CheckAndFind.{CheckAndFind}
-use Rattle.runtime_lookup.specs.declared.CheckAndFind.TheVariants.{Value, Refused}
 use Rattle.runtime_lookup.proofs.Bound.{reads_26}
 use Rattle.runtime_lookup.proofs.Ends.{Held, holds_told, gone_told, looked}
 use Rattle.runtime_lookup.proofs.Turns.{Turn, At-gone, At-holds, At-before, At-after, turn_at, among_empty, among_gone, among_holds, among_before, among_after}
@@ -156,11 +150,11 @@ module _ (s : List ℕ) (table count a low high done : ℕ) (h : lies_of (length
 
 -- The search with each record tested as it is read.
 module _ (s : List ℕ) (table count a low high done : ℕ) (v : Left (table_of s table) count a low high done) (l : low < high) (m : ℕ)
-    (em : m ≡ middle low high) {r : ReadRuntimeFunction} (e : r ≡ get_entry_of s table m) where
-  pub tested_gone : {k : Refusal} → r ≡ found.Refused k → ended (Gone m) done ≡ halving (table_of s table) a count
+    (em : m ≡ middle low high) {r : Result RuntimeFunction Refusal} (e : r ≡ get_entry_of s table m) where
+  pub tested_gone : {k : Refusal} → r ≡ Err k → ended (Gone m) done ≡ halving (table_of s table) a count
   tested_gone f = gone _ count a low high done v m em l (seen_gone s table m (entry_past s table m e f))
 
-  module _ {x : RuntimeFunction} (f : r ≡ found.Value x) where
+  module _ {x : RuntimeFunction} (f : r ≡ Ok x) where
     whole : Whole s table m x
     whole = entry_whole s table m e f
 
@@ -188,87 +182,88 @@ searches s table count a l e =
     rw e (record { same = refl; some = looked (table_of s table) a count; few = reads_26 s table count a l })
 
 -- The record at which a search ended.
-module _ (s : List ℕ) (table index : ℕ) {r : ReadRuntimeFunction} (e : r ≡ get_entry_of s table index) where
-  pub sought_whole : {x : RuntimeFunction} → r ≡ found.Value x → Value (record { function = x; index = index }) ≡ sought_at s table index
+module _ (s : List ℕ) (table index : ℕ) {r : Result RuntimeFunction Refusal} (e : r ≡ get_entry_of s table index) where
+  pub sought_whole : {x : RuntimeFunction} → r ≡ Ok x → Ok (record { function = x; index = index }) ≡ sought_at s table index
   unfolding sought_at
   sought_whole f = rw (← e, f)
 
-  pub sought_cut : {k : Refusal} → r ≡ found.Refused k → Refused k ≡ sought_at s table index
-  unfolding sought_at
-  sought_cut f = rw (← e, f)
-
-never : {h : Holder} {k : Refusal} → Value h ≡ Refused k → ⊥
+never : {h : Holder} {k : Refusal} → ◌≡◌ {A = Result Holder Refusal} (Ok h) (Err k) → ⊥
 never e = let z : ◌≡◌ {A = ℕ} 0 1 = cc in omega arith
 
-stops : {i : ℕ} → code.Stopped i ≡ code.Nothing → ⊥
+stops : {i : ℕ} → ◌≡◌ {A = Option ℕ} (Some i) None → ⊥
 stops e = let z : ◌≡◌ {A = ℕ} 0 1 = cc in omega arith
 
-same_stop : {i j : ℕ} → code.Stopped j ≡ code.Stopped i → j ≡ i
+same_stop : {i j : ℕ} → ◌≡◌ {A = Option ℕ} (Some j) (Some i) → j ≡ i
 same_stop e = cc
 
-there_by : (s : List ℕ) (table index : ℕ) {y : Holder} (r : ReadRuntimeFunction) → r ≡ get_entry_of s table index
-    → Value y ≡ on_read_runtime_function r Refused (λ e. Value (record { function = e; index = index })) → (table_of s table).there index ≡ true
-there_by s table index (found.Value x) e f = seen_there s table index (entry_whole s table index e refl)
-there_by s table index (found.Refused k) e f = absurd (never f)
+there_by : (s : List ℕ) (table index : ℕ) {y : Holder} (r : Result RuntimeFunction Refusal) → r ≡ get_entry_of s table index
+    → Ok y ≡ on_ok r Err (λ e. Ok (record { function = e; index = index })) → (table_of s table).there index ≡ true
+there_by s table index (Ok x) e f = seen_there s table index (entry_whole s table index e refl)
+there_by s table index (Err k) e f = absurd (never f)
 
 -- a record that is answered is there
-pub sought_there : (s : List ℕ) (table index : ℕ) {y : Holder} → Value y ≡ sought_at s table index → (table_of s table).there index ≡ true
+pub sought_there : (s : List ℕ) (table index : ℕ) {y : Holder} → Ok y ≡ sought_at s table index → (table_of s table).there index ≡ true
 unfolding sought_at
 sought_there s table index e = there_by s table index (get_entry_of s table index) refl e
 
 -- The answer of a lookup, by the end of its search.
 module _ (s : List ℕ) (opened : ExceptionData) (a : ℕ) where
-  pub lookup_long : {q : Refusal} → file_limit < length s → q ≡ refuse_of limit → Refused q ≡ find_function_of s opened a
+  pub lookup_long : {q : Refusal} → file_limit < length s → q ≡ refuse_of limit → Err q ≡ find_function_of s opened a
   unfolding find_function_of
-  lookup_long l e = must_off Refused _ _ _ (lt-leb _ _ l) e
+  lookup_long l e = must_off Err _ _ _ (lt-leb _ _ l) e
+
+  -- a refusal that is handed on has no count
+  pub lookup_refused : {x : Result Found Refusal} {k : Refusal} → x ≡ Err k → Err k ≡ find_function_of s opened a
+      → (uncounted x ≡ find_function_of s opened a) × CountedReads x
+  lookup_refused e f = rw e (f, tt)
 
   module _ (l : length s ≤ file_limit) where
     -- by how halving ends
-    pub lookup_ended : {o : Ending} {x : CheckAndFind} → (halving (table_of s opened.table) a opened.count).ending ≡ o
+    pub lookup_ended : {o : Ending} {x : Result Holder Refusal} → (halving (table_of s opened.table) a opened.count).ending ≡ o
         → x ≡ sought_by s opened.table o → x ≡ find_function_of s opened a
     unfolding find_function_of
-    lookup_ended e f = must_on Refused _ _ _ (le-leb _ _ l) (f ∙ ap (sought_by s opened.table) (sym e))
+    lookup_ended e f = must_on Err _ _ _ (le-leb _ _ l) (f ∙ ap (sought_by s opened.table) (sym e))
 
     module _ {h : Search} (w : Searches s opened.table opened.count a h) where
-      none_by : (o : Ending) {q : Refusal} → (halving (table_of s opened.table) a opened.count).ending ≡ o → end_of o ≡ code.Nothing
-          → q ≡ refuse_of not_found → Refused q ≡ find_function_of s opened a
+      none_by : (o : Ending) {q : Refusal} → (halving (table_of s opened.table) a opened.count).ending ≡ o → end_of o ≡ None
+          → q ≡ refuse_of not_found → Err q ≡ find_function_of s opened a
       none_by (Holds i) e n f = absurd (stops n)
       none_by (Gone i) e n f = absurd (stops n)
-      none_by Nothing e n f = lookup_ended e (ap Refused f)
+      none_by Nothing e n f = lookup_ended e (ap Err f)
 
-      pub lookup_none : {q : Refusal} → h.end ≡ code.Nothing → q ≡ refuse_of not_found → Refused q ≡ find_function_of s opened a
+      pub lookup_none : {q : Refusal} → h.end ≡ None → q ≡ refuse_of not_found → Err q ≡ find_function_of s opened a
       lookup_none e f = none_by _ refl (sym w.same ∙ e) f
 
-      module _ {i : ℕ} {x : CheckAndFind} (f : x ≡ sought_at s opened.table i) where
-        at_by : (o : Ending) → (halving (table_of s opened.table) a opened.count).ending ≡ o → end_of o ≡ code.Stopped i
+      module _ {i : ℕ} {x : Result Holder Refusal} (f : x ≡ sought_at s opened.table i) where
+        at_by : (o : Ending) → (halving (table_of s opened.table) a opened.count).ending ≡ o → end_of o ≡ Some i
             → x ≡ find_function_of s opened a
         at_by (Holds j) e n = lookup_ended e (rw (same_stop n) f)
         at_by (Gone j) e n = lookup_ended e (rw (same_stop n) f)
         at_by Nothing e n = absurd (stops (sym n))
 
-        pub lookup_at : {y : CheckAndFind} → h.end ≡ code.Stopped i → x ≡ y → y ≡ find_function_of s opened a
+        pub lookup_at : {y : Result Holder Refusal} → h.end ≡ Some i → x ≡ y → y ≡ find_function_of s opened a
         lookup_at e g = sym g ∙ at_by _ refl (sym w.same ∙ e)
 
         -- a record that is not there is not answered
-        read_by_lem : (o : Ending) {y : Holder} → (halving (table_of s opened.table) a opened.count).ending ≡ o → end_of o ≡ code.Stopped i
-            → x ≡ Value y → Looked o h.reads → 1 ≤ h.reads
+        read_by_lem : (o : Ending) {y : Holder} → (halving (table_of s opened.table) a opened.count).ending ≡ o → end_of o ≡ Some i
+            → x ≡ Ok y → Looked o h.reads → 1 ≤ h.reads
         read_by_lem (Holds j) e n g k = k
         read_by_lem (Gone j) e n g k =
             let t = sought_there s opened.table j (sym g ∙ rw (same_stop n) f) in
             absurd (never_both (sym t ∙ (gone_told (table_of s opened.table) a opened.count j e).gone))
         read_by_lem Nothing e n g k = absurd (stops (sym n))
 
-        pub lookup_counted : {y : Holder} → h.end ≡ code.Stopped i → x ≡ Value y → (1 ≤ h.reads) × (h.reads ≤ read_limit)
+        pub lookup_counted : {y : Holder} → h.end ≡ Some i → x ≡ Ok y → (1 ≤ h.reads) × (h.reads ≤ read_limit)
         lookup_counted e g = (read_by_lem _ refl (sym w.same ∙ e) g w.some, w.few)
 
-must_told : {y : Holder} (t : Bool) (k : Reason) (on : CheckAndFind) → Value y ≡ must Refused t k on → Value y ≡ on
+must_told : {y : Holder} (t : Bool) (k : Reason) (on : Result Holder Refusal) → Ok y ≡ must Err t k on → Ok y ≡ on
 unfolding must
 must_told true k on e = e
 must_told false k on e = absurd (never e)
 
 -- the record that is answered at an index
 pub sought_of : (s : List ℕ) (table index : ℕ) → place_of table index + 12 ≤ length s
-    → Value (record { function = runtime_at s (place_of table index); index = index }) ≡ sought_at s table index
+    → Ok (record { function = runtime_at s (place_of table index); index = index }) ≡ sought_at s table index
 sought_of s table index h = sought_whole s table index refl (sym (entry_is s table index h))
 
 -- what a record that is answered at an index says
@@ -276,19 +271,19 @@ pub record Answers (s : List ℕ) (table index : ℕ) (y : Holder) : Type 0 wher
   pub at : y.index ≡ index
   pub value : y.function ≡ runtime_at s (place_of table index)
 
-same_index : {y : Holder} {x : RuntimeFunction} {i : ℕ} → Value y ≡ Value (record { function = x; index = i }) → y.index ≡ i
+same_index : {y : Holder} {x : RuntimeFunction} {i : ℕ} → ◌≡◌ {A = Result Holder Refusal} (Ok y) (Ok (record { function = x; index = i })) → y.index ≡ i
 same_index e = cc
 
-same_function : {y : Holder} {x : RuntimeFunction} {i : ℕ} → Value y ≡ Value (record { function = x; index = i }) → y.function ≡ x
+same_function : {y : Holder} {x : RuntimeFunction} {i : ℕ} → ◌≡◌ {A = Result Holder Refusal} (Ok y) (Ok (record { function = x; index = i })) → y.function ≡ x
 same_function e = cc
 
-answers_by : (s : List ℕ) (table index : ℕ) {y : Holder} (r : ReadRuntimeFunction) → r ≡ get_entry_of s table index
-    → Value y ≡ on_read_runtime_function r Refused (λ e. Value (record { function = e; index = index })) → Answers s table index y
-answers_by s table index (found.Value x) e f =
+answers_by : (s : List ℕ) (table index : ℕ) {y : Holder} (r : Result RuntimeFunction Refusal) → r ≡ get_entry_of s table index
+    → Ok y ≡ on_ok r Err (λ e. Ok (record { function = e; index = index })) → Answers s table index y
+answers_by s table index (Ok x) e f =
     record { at = same_index f; value = same_function f ∙ (entry_whole s table index e refl).value }
-answers_by s table index (found.Refused k) e f = absurd (never f)
+answers_by s table index (Err k) e f = absurd (never f)
 
-sought_told : (s : List ℕ) (table index : ℕ) {y : Holder} → Value y ≡ sought_at s table index → Answers s table index y
+sought_told : (s : List ℕ) (table index : ℕ) {y : Holder} → Ok y ≡ sought_at s table index → Answers s table index y
 unfolding sought_at
 sought_told s table index e = answers_by s table index (get_entry_of s table index) refl e
 
@@ -298,7 +293,7 @@ pub record Finds (s : List ℕ) (opened : ExceptionData) (a : ℕ) (y : Holder) 
   pub value : y.function ≡ runtime_at s (place_of opened.table y.index)
 
 module _ (s : List ℕ) (opened : ExceptionData) (a : ℕ) {y : Holder} where
-  finds_by : (o : Ending) → (halving (table_of s opened.table) a opened.count).ending ≡ o → Value y ≡ sought_by s opened.table o
+  finds_by : (o : Ending) → (halving (table_of s opened.table) a opened.count).ending ≡ o → Ok y ≡ sought_by s opened.table o
       → Finds s opened a y
   finds_by (Holds i) e f =
       let w = sought_told s opened.table i f in
@@ -310,16 +305,12 @@ module _ (s : List ℕ) (opened : ExceptionData) (a : ℕ) {y : Holder} where
       absurd (never_both (sym (sought_there s opened.table i f) ∙ (gone_told (table_of s opened.table) a opened.count i e).gone))
   finds_by Nothing e f = absurd (never f)
 
-  pub lookup_told : Value y ≡ find_function_of s opened a → Finds s opened a y
+  pub lookup_told : Ok y ≡ find_function_of s opened a → Finds s opened a y
   unfolding find_function_of
   lookup_told e = finds_by _ refl (must_told _ _ _ e)
 
 -- The door that checks first, by the answer of the check.
-module _ (s : List ℕ) (opened : ExceptionData) (a : ℕ) {r : CheckTable} (e : r ≡ check_of s opened.table opened.count) where
-  pub checked_on : {x : CheckAndFind} → r ≡ checked.Ordered → x ≡ find_function_of s opened a → x ≡ check_and_find_of s opened a
+module _ (s : List ℕ) (opened : ExceptionData) (a : ℕ) {r : Result Unit Refusal} (e : r ≡ check_of s opened.table opened.count) where
+  pub checked_on : {x : Result Holder Refusal} → r ≡ Ok tt → x ≡ find_function_of s opened a → x ≡ check_and_find_of s opened a
   unfolding check_and_find_of
   checked_on f g = rw (← e, f) g
-
-  pub checked_refused : {k : Refusal} → r ≡ checked.Refused k → Refused k ≡ check_and_find_of s opened a
-  unfolding check_and_find_of
-  checked_refused f = rw (← e, f)

@@ -1,5 +1,7 @@
 -- What is proved of halving and of a lookup, for every input. That a function answers its definition is its contract (src/lib.rt).
 -- Assumes nothing.
+use Rattle.std.specs.Prelude.{Result, Ok, Err, ℕ, List, ◌≡◌}
+use Rattle.answer.specs.declared.Refusal.{Refusal}
 use mathlib.Core.Path.{◌≡◌, refl, sym, ap, ◌∙◌}
 use mathlib.Core.List.{List}
 use mathlib.Core.Bool.{true}
@@ -12,24 +14,18 @@ use Rattle.answer.specs.Answer.{refuse_of, not_found, values}
 use Rattle.answer.specs.Test.{pick, file_limit}
 use Rattle.answer.proofs.Unique.{same}
 use Rattle.runtime_function.specs.declared.RuntimeFunction.{RuntimeFunction}
-use Rattle.runtime_function.specs.declared.ReadRuntimeFunction.TheVariants as found
 use Rattle.runtime_table.specs.Table.{Table, place_of, table_of, runtime_at, get_entry_of}
 use Rattle.runtime_table.specs.Check.{check_of}
-use Rattle.runtime_table.specs.declared.CheckTable.TheVariants as checked
 use Rattle.runtime_table.proofs.Laws.{entry_whole, seen_there, seen_begin, seen_end, lies_there, never_both}
 use Rattle.runtime_table.proofs.Theorems.{Accepted, check_told}
 use Rattle.exception_data.specs.Exception.{open_of}
 use Rattle.exception_data.specs.declared.ExceptionData.{ExceptionData}
-use Rattle.exception_data.specs.declared.OpenExceptionData.TheVariants as opening
 use Rattle.exception_data.proofs.Theorems.{opened_checked}
 use Rattle.runtime_lookup.specs.Halving.{Ending, Holds, Gone, Nothing, Halved, holds, middle, ended, plus, among, halving}
 use Rattle.runtime_lookup.specs.Lookup.{find_function_of, check_and_find_of, read_limit, uncounted, CountedReads}
-use Rattle.runtime_lookup.specs.Answers.{answer_find_function, count_find_function, answer_check_and_find, count_check_and_find}
+use Rattle.runtime_lookup.specs.Answers.{answer_find_function, count_find_function, answer_check_and_find, count_check_and_find, holder_numbers, found_numbers}
 use Rattle.runtime_lookup.specs.declared.Holder.{Holder}
-use Rattle.runtime_lookup.specs.declared.CheckAndFind.{CheckAndFind}
-use Rattle.runtime_lookup.specs.declared.CheckAndFind.TheVariants.{Value, Refused}
-use Rattle.runtime_lookup.specs.declared.FindFunction.{FindFunction}
-use Rattle.runtime_lookup.specs.declared.FindFunction.TheVariants as located
+use Rattle.runtime_lookup.specs.declared.Found.{Found}
 use Rattle.runtime_lookup.proofs.Turns as turns
 use Rattle.runtime_lookup.proofs.Bound as bound
 use Rattle.runtime_lookup.proofs.Ends.{Held, holds_told, gone_told}
@@ -71,13 +67,13 @@ pub record Holding (s : List ℕ) (opened : ExceptionData) (a i : ℕ) : Type 0 
   pub unended : a < (record_at s opened i).end
 
 -- 9.2: what a lookup is to answer: the one record that holds the address, or 10 where none does
-pub data Exact (s : List ℕ) (opened : ExceptionData) (a : ℕ) (r : CheckAndFind) : Type 0 where
+pub data Exact (s : List ℕ) (opened : ExceptionData) (a : ℕ) (r : Result Holder Refusal) : Type 0 where
   finds : (i : ℕ) → Holding s opened a i → ((j : ℕ) → Holding s opened a j → j ≡ i)
-      → r ≡ Value (record { function = record_at s opened i; index = i }) → Exact s opened a r
-  none : ((i : ℕ) → Holding s opened a i → ⊥) → r ≡ Refused (refuse_of not_found) → Exact s opened a r
+      → r ≡ Ok (record { function = record_at s opened i; index = i }) → Exact s opened a r
+  none : ((i : ℕ) → Holding s opened a i → ⊥) → r ≡ Err (refuse_of not_found) → Exact s opened a r
 
 -- A table that the check accepts.
-module _ (s : List ℕ) (opened : ExceptionData) (a : ℕ) (c : checked.Ordered ≡ check_of s opened.table opened.count) where
+module _ (s : List ℕ) (opened : ExceptionData) (a : ℕ) (c : Ok tt ≡ check_of s opened.table opened.count) where
   accepted : Accepted s opened.table opened.count
   accepted = check_told s opened.table opened.count c
 
@@ -101,18 +97,18 @@ module _ (s : List ℕ) (opened : ExceptionData) (a : ℕ) (c : checked.Ordered 
 
   -- A record that holds the address is found.
   pub found_if_held : (i : ℕ) → Holding s opened a i
-      → Value (record { function = record_at s opened i; index = i }) ≡ find_function_of s opened a
+      → Ok (record { function = record_at s opened i; index = i }) ≡ find_function_of s opened a
   found_if_held i h =
       lookup_ended s opened a accepted.short (sorted.holder_found _ a opened.count is_sorted i (held i h))
       (sought_of s opened.table i (lies_there s opened.table i opened.count h.below accepted.lies))
 
   -- What is found holds the address.
-  pub held_if_found : (h : Holder) → Value h ≡ find_function_of s opened a
+  pub held_if_found : (h : Holder) → Ok h ≡ find_function_of s opened a
       → Holding s opened a h.index × (h.function ≡ record_at s opened h.index)
   held_if_found h e = let w = lookup_told s opened a e in (holding h.index w.held, w.value)
 
   -- Where no record holds the address, the answer is 10.
-  pub not_found_if_none : ((i : ℕ) → Holding s opened a i → ⊥) → Refused (refuse_of not_found) ≡ find_function_of s opened a
+  pub not_found_if_none : ((i : ℕ) → Holding s opened a i → ⊥) → Err (refuse_of not_found) ≡ find_function_of s opened a
   not_found_if_none n =
       lookup_ended s opened a accepted.short (sorted.none_found _ a opened.count is_sorted (λ i h. n i (holding i h))) refl
 
@@ -137,14 +133,14 @@ module _ (s : List ℕ) (opened : ExceptionData) (a : ℕ) (c : checked.Ordered 
   checked_as_looked_up = checked_on s opened a c refl refl
 
 -- 9.2: In a table that opening answered, a lookup finds exactly when a record holds the address, and it is the one that holds it.
-pub opened_exact : (s : List ℕ) (opened : ExceptionData) (a : ℕ) → opening.Value opened ≡ open_of s
+pub opened_exact : (s : List ℕ) (opened : ExceptionData) (a : ℕ) → Ok opened ≡ open_of s
     → Exact s opened a (find_function_of s opened a)
 opened_exact s opened a o = checked_exact s opened a (opened_checked s opened o)
 
 -- A table of one record, opened or not, finds its own begin.
 pub own_begin : (s : List ℕ) (opened : ExceptionData) (e : RuntimeFunction) → length s ≤ file_limit → opened.count ≡ 1
-    → found.Value e ≡ get_entry_of s opened.table 0 → e.begin < e.end
-    → Value (record { function = e; index = 0 }) ≡ find_function_of s opened e.begin
+    → Ok e ≡ get_entry_of s opened.table 0 → e.begin < e.end
+    → Ok (record { function = e; index = 0 }) ≡ find_function_of s opened e.begin
 unfolding halving
 own_begin s opened e l one f p =
     let w = entry_whole s opened.table 0 refl (sym f) in
@@ -154,20 +150,28 @@ own_begin s opened e l one f p =
     (sought_whole s opened.table 0 refl (sym f))
 
 -- Two answers that meet the promise of `find_function` are equal but for the number of records read, which is 1 to 26 where it finds.
-pub find_function_unique : (s : List ℕ) (opened : ExceptionData) (a : ℕ) (r q : FindFunction)
+pub find_function_unique : (s : List ℕ) (opened : ExceptionData) (a : ℕ) (r q : Result Found Refusal)
     → (uncounted r ≡ find_function_of s opened a) × CountedReads r → (uncounted q ≡ find_function_of s opened a) × CountedReads q
     → uncounted r ≡ uncounted q
 find_function_unique s opened a r q e f = same e.0 f.0
 
-pub check_and_find_unique : (s : List ℕ) (opened : ExceptionData) (a : ℕ) {r q : CheckAndFind} → r ≡ check_and_find_of s opened a
+pub check_and_find_unique : (s : List ℕ) (opened : ExceptionData) (a : ℕ) {r q : Result Holder Refusal} → r ≡ check_and_find_of s opened a
     → q ≡ check_and_find_of s opened a → r ≡ q
 check_and_find_unique s opened a = same
 
 -- Each answer has as many numbers as it says, zeros where it is refused.
-pub find_function_count : (r : FindFunction) → length (values count_find_function (answer_find_function r)) ≡ count_find_function
-find_function_count (located.Value h n) = refl
-find_function_count (located.Refused k) = refl
+pub find_function_count : (r : Result Found Refusal) → length (values count_find_function (answer_find_function r)) ≡ count_find_function
+find_function_count (Ok x) = refl
+find_function_count (Err k) = refl
 
-pub check_and_find_count : (r : CheckAndFind) → length (values count_check_and_find (answer_check_and_find r)) ≡ count_check_and_find
-check_and_find_count (Value h) = refl
-check_and_find_count (Refused k) = refl
+pub check_and_find_count : (r : Result Holder Refusal) → length (values count_check_and_find (answer_check_and_find r)) ≡ count_check_and_find
+check_and_find_count (Ok h) = refl
+check_and_find_count (Err k) = refl
+
+-- The numbers that it stands for are fixed.
+pub holder_numbers_unique : (a : Holder) {r q : List ℕ} → r ≡ holder_numbers a → q ≡ holder_numbers a → r ≡ q
+holder_numbers_unique a = same
+
+-- The numbers that it stands for are fixed.
+pub found_numbers_unique : (a : Found) {r q : List ℕ} → r ≡ found_numbers a → q ≡ found_numbers a → r ≡ q
+found_numbers_unique a = same

@@ -1,18 +1,16 @@
 -- How the code writes down a search, and what it promises of one. The contracts of private functions cite this; no definition does.
 -- Assumes nothing.
-use Rattle.std.specs.Prelude.{ℕ, ◌≤◌, ◌≡◌, List}
+use Rattle.std.specs.Prelude.{Option, Some, None, ℕ, ◌≤◌, ◌≡◌, List}
 use Rattle.runtime_table.specs.Table.{table_of}
 use Rattle.runtime_lookup.specs.Halving.{Ending, Holds, Gone, Nothing, Halved, halving}
 use Rattle.runtime_lookup.specs.Lookup.{read_limit}
-use Rattle.runtime_lookup.specs.declared.SearchEnd.{SearchEnd}
-use Rattle.runtime_lookup.specs.declared.SearchEnd.TheVariants as code
 use Rattle.runtime_lookup.specs.declared.Search.{Search}
 
 -- the code reads the record again where a search stopped, so it keeps the index alone
-abbrev pub end_of : Ending → SearchEnd
-end_of (Holds i) = code.Stopped i
-end_of (Gone i) = code.Stopped i
-end_of Nothing = code.Nothing
+abbrev pub end_of : Ending → Option ℕ
+end_of (Holds i) = Some i
+end_of (Gone i) = Some i
+end_of Nothing = None
 
 abbrev pub search_of : Halved → Search
 search_of h = record { end = end_of h.ending; reads = h.reads }

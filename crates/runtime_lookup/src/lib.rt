@@ -1,95 +1,102 @@
 // The runtime record that holds an address, by halving.
 #![tactic(auto)]
 
-ghost use Rattle.std.specs.Prelude.{◌≡◌, true, false, ◌+◌, ◌*◌, ◌≤◌, length};
+ghost use Rattle.std.specs.Prelude.{◌≡◌, true, false, ◌+◌, ◌≤◌, length};
 ghost use Rattle.answer.specs.Test.{file_limit};
 ghost use Rattle.fields.specs.Number.{number_at};
 ghost use Rattle.runtime_table.specs.Table.{table_of, lies_of};
+ghost use Rattle.runtime_lookup.specs.Answers.{holder_numbers, found_numbers};
 ghost use Rattle.runtime_lookup.specs.Halving.{halving};
 ghost use Rattle.runtime_lookup.specs.Lookup.{sought_at, find_function_of, check_and_find_of, uncounted, CountedReads};
 ghost use Rattle.runtime_lookup.specs.Code.{search_of, Searches};
 
-use answer::{Reason, Refusal};
+use answer::{Numbers, Reason, Refusal};
 use exception_data::ExceptionData;
-use runtime_function::{ReadRuntimeFunction, RuntimeFunction};
-use runtime_table::CheckTable;
+use runtime_function::RuntimeFunction;
 
 // The record that holds an address, and its index.
-#[derive(Clone, Copy)]
+#[derive(Clone, Copy, Debug, PartialEq, Eq)]
 pub struct Holder {
     pub function: RuntimeFunction,
     pub index: usize,
 }
 
-#[derive(Clone, Copy)]
-pub enum CheckAndFind {
-    Value(Holder),
-    Refused(Refusal),
+impl Numbers<4> for Holder {
+    ghost numbers = { holder_numbers };
+
+    fn numbers(self) -> [u64; 4] {
+        [
+            self.function.begin.into(),
+            self.function.end.into(),
+            self.function.unwind.into(),
+            self.index as u64,
+        ]
+    }
 }
 
 // With the number of records that were read.
-#[derive(Clone, Copy)]
-pub enum FindFunction {
-    Value(Holder, u8),
-    Refused(Refusal),
+#[derive(Clone, Copy, Debug, PartialEq, Eq)]
+pub struct Found {
+    pub holder: Holder,
+    pub reads: u8,
 }
 
-// How a search ends.
-#[derive(Clone, Copy)]
-enum SearchEnd {
-    // At the record of this index, which holds the address or is not wholly in the file.
-    Stopped(usize),
-    // With no record left.
-    Nothing,
+impl Numbers<5> for Found {
+    ghost numbers = { found_numbers };
+
+    fn numbers(self) -> [u64; 5] {
+        [
+            self.holder.function.begin.into(),
+            self.holder.function.end.into(),
+            self.holder.function.unwind.into(),
+            self.holder.index as u64,
+            self.reads.into(),
+        ]
+    }
 }
 
-// A search: how it ended, and how many records it read.
+// A search: the index at which it stopped, unless no record was left, and how many records it read.
 #[derive(Clone, Copy)]
 struct Search {
-    end: SearchEnd,
+    end: Option<usize>,
     reads: u8,
 }
 
 // The record that halving finds in the opened table.
-pub fn find_function(file: &[u8], opened: ExceptionData, address: u32) -> FindFunction
+pub fn find_function(file: &[u8], opened: ExceptionData, address: u32) -> Result<Found, Refusal>
     ensures { (uncounted result ≡ find_function_of file.now opened address) × CountedReads result }
 {
     if answer::FILE_LIMIT < file.len() {
-        return FindFunction::Refused(answer::refuse(Reason::Limit));
+        return Err(Reason::Limit.into());
     }
-    let halved = search_table(file, opened.table, opened.count, address);
-    let reads = halved.reads;
-    let end = halved.end;
-    match end {
-        SearchEnd::Stopped(index) => match sought_at(file, opened.table, index) {
-            CheckAndFind::Value(holder) => FindFunction::Value(holder, reads),
-            CheckAndFind::Refused(k) => FindFunction::Refused(k),
-        },
-        SearchEnd::Nothing => FindFunction::Refused(answer::refuse(Reason::NotFound)),
-    }
+    let search = search_table(file, opened.table, opened.count, address);
+    let Some(index) = search.end else {
+        return Err(Reason::NotFound.into());
+    };
+    let holder = sought_at(file, opened.table, index)?;
+    Ok(Found {
+        holder,
+        reads: search.reads,
+    })
 }
 
 // The same of a table that is checked first.
-pub fn check_and_find(file: &[u8], opened: ExceptionData, address: u32) -> CheckAndFind
+#[tactic(auto, unfolding(crate::specs::Lookup::check_and_find_of))]
+pub fn check_and_find(file: &[u8], opened: ExceptionData, address: u32) -> Result<Holder, Refusal>
     ensures { result ≡ check_and_find_of file.now opened address }
 {
-    match runtime_table::check(file, opened.table, opened.count) {
-        CheckTable::Ordered => match find_function(file, opened, address) {
-            FindFunction::Value(holder, _) => CheckAndFind::Value(holder),
-            FindFunction::Refused(k) => CheckAndFind::Refused(k),
-        },
-        CheckTable::Refused(k) => CheckAndFind::Refused(k),
-    }
+    runtime_table::check(file, opened.table, opened.count)?;
+    let found = find_function(file, opened, address)?;
+    Ok(found.holder)
 }
 
 // The record at which a search stopped.
-fn sought_at(file: &[u8], table: usize, index: usize) -> CheckAndFind
+#[tactic(auto, unfolding(crate::specs::Lookup::sought_at))]
+fn sought_at(file: &[u8], table: usize, index: usize) -> Result<Holder, Refusal>
     ensures { result ≡ sought_at file.now table index }
 {
-    match runtime_table::get_entry(file, table, index) {
-        ReadRuntimeFunction::Value(function) => CheckAndFind::Value(Holder { function, index }),
-        ReadRuntimeFunction::Refused(k) => CheckAndFind::Refused(k),
-    }
+    let function = runtime_table::get_entry(file, table, index)?;
+    Ok(Holder { function, index })
 }
 
 // The search of every lookup. A faster one takes the place of `inside`, or of all of it.
@@ -109,9 +116,9 @@ fn inside(file: &[u8], table: usize, count: usize, address: u32) -> Search
     requires table_within { lies_of (length file.now) table count ≡ true }
     ensures { result ≡ search_of (halving (table_of file.now table) address count) }
 {
-    let mut low: usize = 0;
-    let mut high: usize = count;
-    let mut reads: u8 = 0;
+    let mut low = 0;
+    let mut high = count;
+    let mut reads = 0;
     while low < high {
         let middle = (low + high) / 2;
         let at = table + runtime_function::SIZE * middle;
@@ -120,20 +127,16 @@ fn inside(file: &[u8], table: usize, count: usize, address: u32) -> Search
         reads += 1;
         if address < begin {
             high = middle;
+        } else if address < end {
+            return Search {
+                end: Some(middle),
+                reads,
+            };
         } else {
-            if address < end {
-                return Search {
-                    end: SearchEnd::Stopped(middle),
-                    reads,
-                };
-            }
             low = middle + 1;
         }
     }
-    Search {
-        end: SearchEnd::Nothing,
-        reads,
-    }
+    Search { end: None, reads }
 }
 
 // Halving on any bytes and numbers: each record is tested as it is read.
@@ -141,49 +144,35 @@ fn tested(file: &[u8], table: usize, count: usize, address: u32) -> Search
     requires { length file.now ≤ file_limit }
     ensures { result ≡ search_of (halving (table_of file.now table) address count) }
 {
-    let mut low: usize = 0;
-    let mut high: usize = count;
-    let mut reads: u8 = 0;
+    let mut low = 0;
+    let mut high = count;
+    let mut reads = 0;
     while low < high {
         let index = low + (high - low) / 2;
-        match runtime_table::get_entry(file, table, index) {
-            ReadRuntimeFunction::Value(e) => {
-                reads += 1;
-                if address < e.begin {
-                    high = index;
-                } else {
-                    if address < e.end {
-                        return Search {
-                            end: SearchEnd::Stopped(index),
-                            reads,
-                        };
-                    }
-                    low = index + 1;
-                }
-            }
-            ReadRuntimeFunction::Refused(_) => {
-                return Search {
-                    end: SearchEnd::Stopped(index),
-                    reads,
-                };
-            }
+        let Ok(e) = runtime_table::get_entry(file, table, index) else {
+            return Search {
+                end: Some(index),
+                reads,
+            };
+        };
+        reads += 1;
+        if address < e.begin {
+            high = index;
+        } else if address < e.end {
+            return Search {
+                end: Some(index),
+                reads,
+            };
+        } else {
+            low = index + 1;
         }
     }
-    Search {
-        end: SearchEnd::Nothing,
-        reads,
-    }
+    Search { end: None, reads }
 }
 
 fn u32_at(s: &[u8], at: usize) -> u32
     requires { at + 4 ≤ length s.now }
     ensures { result ≡ number_at false 4 s.now at }
 {
-    u32_of(s[at], s[at + 1], s[at + 2], s[at + 3])
-}
-
-fn u32_of(a: u8, b: u8, c: u8, d: u8) -> u32
-    ensures { result ≡ a + 256 * b + 65536 * c + 16777216 * d }
-{
-    (a as u32) + 256 * (b as u32) + 65536 * (c as u32) + 16777216 * (d as u32)
+    u32::from_le_bytes([s[at], s[at + 1], s[at + 2], s[at + 3]])
 }

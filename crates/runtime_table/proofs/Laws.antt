@@ -1,5 +1,6 @@
 -- The laws of a record, of order and of a check: what the proofs of readers of a table cite.
 -- Assumes nothing.
+use Rattle.std.specs.Prelude.{Result, Ok, Err}
 use mathlib.Core.Path.{◌≡◌, refl, sym, ap, ◌∙◌}
 use mathlib.Core.Logic.{⊎_elim}
 use mathlib.Core.List.{List, [], ◌∷◌}
@@ -20,19 +21,16 @@ use Rattle.layout.proofs.Laws.{read_short, read_full}
 use Rattle.layout.proofs.Theorems.{Reads, whole, cut as missing, reads}
 use Rattle.runtime_function.specs.RuntimeFunction.{runtime_function, record_of, read_of}
 use Rattle.runtime_function.specs.declared.RuntimeFunction.{RuntimeFunction}
-use Rattle.runtime_function.specs.declared.ReadRuntimeFunction.{ReadRuntimeFunction}
-use Rattle.runtime_function.specs.declared.ReadRuntimeFunction.TheVariants as found
 use Rattle.runtime_table.specs.Table.{Table, place_of, table_of, runtime_at, get_entry_of, lies_of, each, ordered}
 use Rattle.runtime_table.specs.Check.{check_of}
-use Rattle.runtime_table.specs.declared.CheckTable.TheVariants.{Ordered, Refused}
 
-pub never : {e : RuntimeFunction} {k : Refusal} → found.Value e ≡ found.Refused k → ⊥
+pub never : {e : RuntimeFunction} {k : Refusal} → Ok e ≡ Err k → ⊥
 never e = let z : ◌≡◌ {A = ℕ} 0 1 = cc in omega arith
 
 pub never_both : true ≡ false → ⊥
 never_both e = let z : ◌≡◌ {A = ℕ} 0 1 = cc in omega arith
 
-same_record : {e f : RuntimeFunction} → found.Value e ≡ found.Value f → e ≡ f
+same_record : {e f : RuntimeFunction} → ◌≡◌ {A = Result RuntimeFunction Refusal} (Ok e) (Ok f) → e ≡ f
 same_record e = cc
 
 -- what a record that was read says
@@ -40,38 +38,38 @@ pub record Whole (s : List ℕ) (table index : ℕ) (e : RuntimeFunction) : Type
   pub inside : place_of table index + 12 ≤ length s
   pub value : e ≡ runtime_at s (place_of table index)
 
-abbrev told : List ℕ → ℕ → ReadRuntimeFunction → Type 0
-told s at r = Reads (found.Value (runtime_at s at)) (λ (end : ℕ). found.Refused (cut_of end)) runtime_function s at r
+abbrev told : List ℕ → ℕ → Result RuntimeFunction Refusal → Type 0
+told s at r = Reads (Ok (runtime_at s at)) (λ (end : ℕ). Err (cut_of end)) runtime_function s at r
 
-told_of : (s : List ℕ) (table index : ℕ) {r : ReadRuntimeFunction} → r ≡ get_entry_of s table index → told s (place_of table index) r
+told_of : (s : List ℕ) (table index : ℕ) {r : Result RuntimeFunction Refusal} → r ≡ get_entry_of s table index → told s (place_of table index) r
 unfolding get_entry_of read_of
 told_of s table index e =
-    rw e (reads (λ ns. found.Value (record_of ns)) (λ end. found.Refused (cut_of end)) false runtime_function s (place_of table index))
+    rw e (reads (λ ns. Ok (record_of ns)) (λ end. Err (cut_of end)) false runtime_function s (place_of table index))
 
-whole_of : (s : List ℕ) (table index : ℕ) {r : ReadRuntimeFunction} {e : RuntimeFunction} → r ≡ found.Value e
+whole_of : (s : List ℕ) (table index : ℕ) {r : Result RuntimeFunction Refusal} {e : RuntimeFunction} → r ≡ Ok e
     → told s (place_of table index) r → Whole s table index e
 whole_of s table index f (whole r g) = record { inside = r (omega arith); value = same_record (sym f ∙ g) }
 whole_of s table index f (missing n a b g) = absurd (never (sym f ∙ g))
 
-past_of : (s : List ℕ) (table index : ℕ) {r : ReadRuntimeFunction} {k : Refusal} → r ≡ found.Refused k → told s (place_of table index) r
+past_of : (s : List ℕ) (table index : ℕ) {r : Result RuntimeFunction Refusal} {k : Refusal} → r ≡ Err k → told s (place_of table index) r
     → length s < place_of table index + 12
 past_of s table index f (whole r g) = absurd (never (sym g ∙ f))
 past_of s table index f (missing n a b g) = omega arith
 
 -- a record that has room is read
 pub entry_is : (s : List ℕ) (table index : ℕ) → place_of table index + 12 ≤ length s
-    → found.Value (runtime_at s (place_of table index)) ≡ get_entry_of s table index
+    → Ok (runtime_at s (place_of table index)) ≡ get_entry_of s table index
 unfolding get_entry_of read_of
 entry_is s table index h =
-    read_full false s (λ ns. found.Value (record_of ns)) (λ end. found.Refused (cut_of end)) runtime_function (place_of table index)
+    read_full false s (λ ns. Ok (record_of ns)) (λ end. Err (cut_of end)) runtime_function (place_of table index)
     (omega arith)
 
 -- what the answer of a read at an index tells
-module _ (s : List ℕ) (table index : ℕ) {r : ReadRuntimeFunction} (e : r ≡ get_entry_of s table index) where
-  pub entry_whole : {f : RuntimeFunction} → r ≡ found.Value f → Whole s table index f
+module _ (s : List ℕ) (table index : ℕ) {r : Result RuntimeFunction Refusal} (e : r ≡ get_entry_of s table index) where
+  pub entry_whole : {f : RuntimeFunction} → r ≡ Ok f → Whole s table index f
   entry_whole f = whole_of s table index f (told_of s table index e)
 
-  pub entry_past : {k : Refusal} → r ≡ found.Refused k → length s < place_of table index + 12
+  pub entry_past : {k : Refusal} → r ≡ Err k → length s < place_of table index + 12
   entry_past f = past_of s table index f (told_of s table index e)
 
 -- Whether a table lies within bytes.
@@ -118,18 +116,18 @@ module _ (s : List ℕ) (table index : ℕ) where
   pub lies_there : (count : ℕ) → index < count → lies_of (length s) table count ≡ true → place_of table index + 12 ≤ length s
   lies_there count l h = omega (arith, lies_told (length s) table count (omega arith) h)
 
-  pub lies_read : (count : ℕ) {r : ReadRuntimeFunction} {k : Refusal} → index < count → lies_of (length s) table count ≡ true
-      → r ≡ get_entry_of s table index → r ≡ found.Refused k → ⊥
+  pub lies_read : (count : ℕ) {r : Result RuntimeFunction Refusal} {k : Refusal} → index < count → lies_of (length s) table count ≡ true
+      → r ≡ get_entry_of s table index → r ≡ Err k → ⊥
   lies_read count l h e f = omega (arith, lies_there count l h, entry_past s table index e f)
 
 -- a record that begins past 64 bits is not in bytes that end before it
 pub record_past : (s : List ℕ) (table index : ℕ) {q : Refusal} → length s < place_of table index + 4 → 2 ^ 64 ≤ place_of table index
-    → q ≡ beyond_of → found.Refused q ≡ get_entry_of s table index
+    → q ≡ beyond_of → Err q ≡ get_entry_of s table index
 unfolding get_entry_of read_of
 record_past s table index h b e =
     let c : beyond_of ≡ cut_of (place_of table index + 4) = cut_beyond (place_of table index + 4) (omega arith) in
-    ap found.Refused (e ∙ c)
-    ∙ read_short false s (λ ns. found.Value (record_of ns)) (λ end. found.Refused (cut_of end)) 4 (4 ∷ 4 ∷ []) (place_of table index) h
+    ap Err (e ∙ c)
+    ∙ read_short false s (λ ns. Ok (record_of ns)) (λ end. Err (cut_of end)) 4 (4 ∷ 4 ∷ []) (place_of table index) h
 
 -- What holds of each number below another.
 pub each_all : (n : ℕ) (p : ℕ → Bool) → ((i : ℕ) → i < n → p i ≡ true) → each n p ≡ true
@@ -253,21 +251,21 @@ module _ (t : Table) (count index end : ℕ) (p : Passed t count index end) wher
 
 -- Checking a table, a law for each outcome.
 module _ (s : List ℕ) (table count : ℕ) where
-  pub check_long : {q : Refusal} → file_limit < length s → q ≡ refuse_of limit → Refused q ≡ check_of s table count
+  pub check_long : {q : Refusal} → file_limit < length s → q ≡ refuse_of limit → Err q ≡ check_of s table count
   unfolding check_of
-  check_long l e = must_off Refused _ _ _ (lt-leb _ _ l) e
+  check_long l e = must_off Err _ _ _ (lt-leb _ _ l) e
 
   module _ (l : length s ≤ file_limit) where
     pub check_past : {q : Refusal} → lies_of (length s) table count ≡ false → q ≡ cut_of (place_of table count)
-        → Refused q ≡ check_of s table count
+        → Err q ≡ check_of s table count
     unfolding check_of
-    check_past h e = must_on Refused _ _ _ (le-leb _ _ l) (rw (h, e))
+    check_past h e = must_on Err _ _ _ (le-leb _ _ l) (rw (h, e))
 
     module _ (h : lies_of (length s) table count ≡ true) where
-      pub check_disorder : {q : Refusal} → ordered (table_of s table) count ≡ false → q ≡ refuse_of order → Refused q ≡ check_of s table count
+      pub check_disorder : {q : Refusal} → ordered (table_of s table) count ≡ false → q ≡ refuse_of order → Err q ≡ check_of s table count
       unfolding check_of
-      check_disorder o e = must_on Refused _ _ _ (le-leb _ _ l) (rw h (must_off Refused _ _ _ o e))
+      check_disorder o e = must_on Err _ _ _ (le-leb _ _ l) (rw h (must_off Err _ _ _ o e))
 
-      pub check_on : ordered (table_of s table) count ≡ true → Ordered ≡ check_of s table count
+      pub check_on : ordered (table_of s table) count ≡ true → Ok tt ≡ check_of s table count
       unfolding check_of
-      check_on o = must_on Refused _ _ _ (le-leb _ _ l) (rw h (must_on Refused _ _ _ o refl))
+      check_on o = must_on Err _ _ _ (le-leb _ _ l) (rw h (must_on Err _ _ _ o refl))

@@ -1,11 +1,11 @@
 -- A table of runtime records: which records are there, where each begins and ends, and when they are in order.
 -- Assumes nothing.
-use Rattle.std.specs.Prelude.{ℕ, zero, suc, ◌+◌, ◌-◌, ◌*◌, List, Bool, true, false, length, leb, ltb, eqb}
+use Rattle.std.specs.Prelude.{Result, ℕ, zero, suc, ◌+◌, ◌-◌, ◌*◌, List, Bool, true, false, length, leb, ltb, eqb}
+use Rattle.answer.specs.declared.Refusal.{Refusal}
 use Rattle.answer.specs.Test.{pick}
 use Rattle.layout.specs.Layout.{bytes_in, numbers_at}
 use Rattle.runtime_function.specs.RuntimeFunction.{fields, runtime_function, record_of, read_of}
 use Rattle.runtime_function.specs.declared.RuntimeFunction.{RuntimeFunction}
-use Rattle.runtime_function.specs.declared.ReadRuntimeFunction.{ReadRuntimeFunction}
 
 -- a table: for each index whether the record is wholly there, its begin and its end
 pub record Table : Type 0 where
@@ -35,7 +35,7 @@ table_of s table =
     }
 
 -- 8.11, 3.6, 8.14: what reading the record at an index answers: the record, or 1 at the first field that is not whole
-unfoldable pub get_entry_of : List ℕ → ℕ → ℕ → ReadRuntimeFunction
+unfoldable pub get_entry_of : List ℕ → ℕ → ℕ → Result RuntimeFunction Refusal
 get_entry_of s table index = read_of s (place_of table index)
 
 -- 8.7, 3.12, 8.14: `count` records lie within `len` bytes; a table of no records needs no byte

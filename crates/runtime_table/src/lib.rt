@@ -6,43 +6,35 @@ ghost use Rattle.runtime_table.specs.Table.{table_of, get_entry_of, lies_of, ord
 ghost use Rattle.runtime_table.specs.Check.{check_of};
 
 use answer::{Reason, Refusal};
-use runtime_function::ReadRuntimeFunction;
-
-const LAST: usize = 18446744073709551615;
-
-#[derive(Clone, Copy)]
-pub enum CheckTable {
-    Ordered,
-    Refused(Refusal),
-}
+use runtime_function::RuntimeFunction;
 
 // Whether the table at `table` lies in the file and its `count` records are in order.
-pub fn check(file: &[u8], table: usize, count: usize) -> CheckTable
+pub fn check(file: &[u8], table: usize, count: usize) -> Result<(), Refusal>
     ensures { result ≡ check_of file.now table count }
 {
     if answer::FILE_LIMIT < file.len() {
-        return CheckTable::Refused(answer::refuse(Reason::Limit));
+        return Err(Reason::Limit.into());
     }
     if lies(file.len(), table, count) {
         if in_order(file, table, count) {
-            return CheckTable::Ordered;
+            return Ok(());
         }
-        return CheckTable::Refused(answer::refuse(Reason::Order));
+        return Err(Reason::Order.into());
     }
     // Records of more than 64 bits together are in no file.
-    if LAST / runtime_function::SIZE < count {
-        return CheckTable::Refused(answer::beyond());
+    if usize::MAX / runtime_function::SIZE < count {
+        return Err(answer::beyond());
     }
-    CheckTable::Refused(answer::cut(table, runtime_function::SIZE * count))
+    Err(answer::cut(table, runtime_function::SIZE * count))
 }
 
 // The record at an index of the table at `table`, however many records it has.
-pub fn get_entry(s: &[u8], table: usize, index: usize) -> ReadRuntimeFunction
+pub fn get_entry(s: &[u8], table: usize, index: usize) -> Result<RuntimeFunction, Refusal>
     ensures { result ≡ get_entry_of s.now table index }
 {
     // A record that begins past 64 bits is in no file.
-    if (LAST - table) / runtime_function::SIZE < index {
-        return ReadRuntimeFunction::Refused(answer::beyond());
+    if (usize::MAX - table) / runtime_function::SIZE < index {
+        return Err(answer::beyond());
     }
     runtime_function::read(s, table + runtime_function::SIZE * index)
 }
@@ -51,13 +43,9 @@ pub fn get_entry(s: &[u8], table: usize, index: usize) -> ReadRuntimeFunction
 pub fn lies(len: usize, table: usize, count: usize) -> bool
     ensures { result ≡ lies_of len table count }
 {
-    if count == 0 {
-        return true;
-    }
-    if len / runtime_function::SIZE < count {
-        return false;
-    }
-    fields::fits(len, table, runtime_function::SIZE * count)
+    count == 0
+        || count <= len / runtime_function::SIZE
+            && fields::fits(len, table, runtime_function::SIZE * count)
 }
 
 // The records are passed in table order, each with the end of the one before it.
@@ -65,24 +53,15 @@ fn in_order(file: &[u8], table: usize, count: usize) -> bool
     requires { lies_of (length file.now) table count ≡ true }
     ensures { result ≡ ordered (table_of file.now table) count }
 {
-    let mut index: usize = 0;
-    let mut end: u32 = 0;
-    while index < count {
-        match get_entry(file, table, index) {
-            ReadRuntimeFunction::Value(e) => {
-                if e.begin < end {
-                    return false;
-                }
-                if e.end <= e.begin {
-                    return false;
-                }
-                end = e.end;
-            }
-            ReadRuntimeFunction::Refused(_) => {
-                return false;
-            }
+    let mut end = 0;
+    for index in 0..count {
+        let Ok(e) = get_entry(file, table, index) else {
+            return false;
+        };
+        if e.begin < end || e.end <= e.begin {
+            return false;
         }
-        index += 1;
+        end = e.end;
     }
     true
 }

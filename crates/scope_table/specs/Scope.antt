@@ -1,16 +1,13 @@
 -- The C scope table, which is the data of an exception handler: a count and its entries, the least significant byte of each number first.
 -- Assumes nothing.
-use Rattle.std.specs.Prelude.{ℕ, ◌+◌, ◌*◌, List, [], ◌∷◌, false, length, leb, ltb}
-use Rattle.answer.specs.Answer.{contradiction, not_found}
+use Rattle.std.specs.Prelude.{Result, Ok, Err, ℕ, ◌+◌, ◌*◌, List, [], ◌∷◌, false, length, leb, ltb}
+use Rattle.answer.specs.Answer.{on_ok, contradiction, not_found}
+use Rattle.answer.specs.declared.Refusal.{Refusal}
 use Rattle.answer.specs.Test.{must}
 use Rattle.fields.specs.Field.{read_of as field_of, stored}
 use Rattle.layout.specs.Layout.{Field, field, widths, the, reading, write_by}
-use Rattle.scope_table.specs.Answers.{numbers_of, on_count_scopes}
+use Rattle.scope_table.specs.Answers.{numbers_of}
 use Rattle.scope_table.specs.declared.ScopeTableEntry.{ScopeTableEntry}
-use Rattle.scope_table.specs.declared.ReadScopeTableEntry.{ReadScopeTableEntry}
-use Rattle.scope_table.specs.declared.ReadScopeTableEntry.TheVariants.{Value, Refused}
-use Rattle.scope_table.specs.declared.CountScopes.{CountScopes}
-use Rattle.scope_table.specs.declared.CountScopes.TheVariants as counted
 
 -- 4.19: offset, width, name
 abbrev pub fields : List Field
@@ -30,8 +27,8 @@ entry_of ns =
     }
 
 -- 3.6: what reading at `at` answers: the entry, or 1 at the first field that is not whole
-unfoldable pub read_of : List ℕ → ℕ → ReadScopeTableEntry
-read_of s at = reading Refused false fields s at (λ ns. Value (entry_of ns))
+unfoldable pub read_of : List ℕ → ℕ → Result ScopeTableEntry Refusal
+read_of s at = reading Err false fields s at (λ ns. Ok (entry_of ns))
 
 -- 4.9: what `o` is after the entry was written at `at`
 abbrev pub write_out : List ℕ → ℕ → ScopeTableEntry → List ℕ
@@ -39,19 +36,19 @@ write_out o at e = stored o at (write_by false scope_table_entry (numbers_of e))
 
 -- 13.1, 13.3, 13.4: the number of entries of the table at `start`, whose data runs to the end of the bytes; 1 where the count is not whole, 4
 -- where its entries do not fit
-unfoldable pub count_from : List ℕ → ℕ → CountScopes
+unfoldable pub count_from : List ℕ → ℕ → Result ℕ Refusal
 count_from s start =
-    field_of (λ n. must counted.Refused (leb (start + 4 + 16 * n) (length s)) contradiction (counted.Value n)) counted.Refused false 4 s start
+    field_of (λ n. must Err (leb (start + 4 + 16 * n) (length s)) contradiction (Ok n)) Err false 4 s start
 
 -- 13.1, 13.6: the entry at an index of the table at `start`; an index at or after the count is 10
-unfoldable pub entry_from : List ℕ → ℕ → ℕ → ReadScopeTableEntry
+unfoldable pub entry_from : List ℕ → ℕ → ℕ → Result ScopeTableEntry Refusal
 entry_from s start index =
-    on_count_scopes (count_from s start) Refused (λ n. must Refused (ltb index n) not_found (read_of s (start + 4 + 16 * index)))
+    on_ok (count_from s start) Err (λ n. must Err (ltb index n) not_found (read_of s (start + 4 + 16 * index)))
 
 -- 13.6: the number of entries, of data that is lent by itself
-abbrev pub count_in_of : List ℕ → CountScopes
+abbrev pub count_in_of : List ℕ → Result ℕ Refusal
 count_in_of s = count_from s 0
 
 -- 13.6: the entry at an index, of data that is lent by itself
-abbrev pub entry_in_of : List ℕ → ℕ → ReadScopeTableEntry
+abbrev pub entry_in_of : List ℕ → ℕ → Result ScopeTableEntry Refusal
 entry_in_of s index = entry_from s 0 index

@@ -1,6 +1,7 @@
 -- Unwinding undoes the prolog: the theorem of `prolog_theorem` with the step itself as its subject, whatever the file, the opened data and the
 -- address are.
 -- Assumes nothing.
+use Rattle.std.specs.Prelude.{Ok}
 use mathlib.Core.Path.{◌≡◌, sym, ap, ◌∙◌}
 use mathlib.Core.List.{List, [], ◌∷◌}
 use mathlib.Core.Bool.{true}
@@ -10,7 +11,6 @@ use Rattle.pe_mapping.specs.declared.Sections.{Sections}
 use Rattle.exception_data.specs.declared.ExceptionData.{ExceptionData}
 use Rattle.runtime_lookup.specs.Lookup.{find_function_of}
 use Rattle.runtime_lookup.specs.declared.Holder.{Holder}
-use Rattle.runtime_lookup.specs.declared.CheckAndFind.TheVariants as sought
 use Rattle.unwind_operation.specs.declared.UnwindCode.{UnwindCode}
 use Rattle.unwind_codes.proofs.Theorems.{whole_registers}
 use Rattle.unwind_codes.proofs.Theorems as codes
@@ -57,7 +57,7 @@ distance_at address c = distance_of address c.found.place.begin
 -- register as it was at entry. The window holds the words that the prolog wrote for it, and no address left 64 bits on the way.
 pub the_step_undoes_the_prolog :
     (file : List ℕ) (opened : ExceptionData) (address : ℕ) (h : Holder) (c : Chain) (entry : Entry) (m n : Machine) (words : List ℕ) (base : ℕ)
-    → find_function_of file opened address ≡ sought.Value h
+    → find_function_of file opened address ≡ Ok h
     → chain_of file opened.sections h.function ≡ chain c
     → strict (arrays_of c) ≡ true
     → Reaches entry (arrays_of c) (distance_at address c) m n
@@ -73,7 +73,7 @@ the_step_undoes_the_prolog file opened address h c entry m n words base found re
 -- pushed or saved are the caller's, and the others are as at the stop.
 pub the_step_recovers_what_was_kept :
     (file : List ℕ) (opened : ExceptionData) (address : ℕ) (h : Holder) (c : Chain) (entry : Entry) (m n : Machine) (words : List ℕ) (base : ℕ)
-    → find_function_of file opened address ≡ sought.Value h
+    → find_function_of file opened address ≡ Ok h
     → chain_of file opened.sections h.function ≡ chain c
     → strict (arrays_of c) ≡ true
     → Sized m.registers

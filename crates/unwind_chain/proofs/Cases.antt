@@ -1,5 +1,8 @@
 -- The definitions on small images, by computation: 32 links pass, 33 are 8, and the order of refusals.
 -- Assumes nothing.
+use Rattle.unwind_chain.specs.declared.Totals.{Totals}
+use Rattle.std.specs.Prelude.{Result, Ok, Err}
+use Rattle.answer.specs.declared.Refusal.{Refusal}
 use mathlib.Core.Path.{◌≡◌, refl}
 use mathlib.Core.List.{List, [], ◌∷◌, ◌++◌}
 use mathlib.Core.Bool.{true, false}
@@ -23,10 +26,7 @@ use Rattle.unwind_codes.specs.Codes.{codes_from, codes_at, codes_of, whole_info_
 use Rattle.unwind_links.specs.Links.{record_at_of, place_of, locate_from, locate_info_of, info_at}
 use Rattle.unwind_chain.specs.Chain.{link_at, chain_from, count_all_codes_of}
 use Rattle.unwind_chain.specs.Cursor.{start_chain_of, code_in, code_at, after_codes, next_chain_code_of}
-use Rattle.unwind_chain.specs.declared.CountAllCodes.{CountAllCodes}
-use Rattle.unwind_chain.specs.declared.CountAllCodes.TheVariants.{Value, Refused}
 use Rattle.unwind_chain.specs.declared.ChainCursor.{ChainCursor}
-use Rattle.unwind_chain.specs.declared.StartChain.TheVariants as start
 use Rattle.unwind_chain.specs.declared.NextChainCode.{NextChainCode}
 use Rattle.unwind_chain.specs.declared.NextChainCode.TheVariants as next
 
@@ -50,8 +50,8 @@ one = record { table = 0; count = 1; alignment = 512 }
 abbrev from : ℕ → RuntimeFunction
 from unwind = record { begin = 100; end = 200; unwind = unwind }
 
-abbrev totals : ℕ → ℕ → CountAllCodes
-totals links codes = Value (record { links = links; codes = codes })
+abbrev totals : ℕ → ℕ → Result Totals Refusal
+totals links codes = Ok (record { links = links; codes = codes })
 
 -- a record after the codes of a chained info
 abbrev to : ℕ → List ℕ
@@ -83,22 +83,22 @@ two = 33 ∷ 0 ∷ 2 ∷ 0 ∷ 8 ∷ 48 ∷ 4 ∷ 2 ∷ []
 record Counts : Type 0 where
   no_links : count_all_codes_of (row ++ alloc) one (from 40) ≡ totals 0 1
   thirty_two_links : count_all_codes_of (row ++ chain 32 40 ++ alloc) one (from 40) ≡ totals 32 1
-  thirty_three_links : count_all_codes_of (row ++ chain 33 40 ++ alloc) one (from 40) ≡ Refused (refuse_of links)
+  thirty_three_links : count_all_codes_of (row ++ chain 33 40 ++ alloc) one (from 40) ≡ Err (refuse_of links)
   -- an odd address and 31 chained infos, and one more
   odd_and_chained : count_all_codes_of (row ++ to 52 ++ chain 31 52 ++ alloc) one (from 41) ≡ totals 32 1
-  odd_and_chained_over : count_all_codes_of (row ++ to 52 ++ chain 32 52 ++ alloc) one (from 41) ≡ Refused (refuse_of links)
+  odd_and_chained_over : count_all_codes_of (row ++ to 52 ++ chain 32 52 ++ alloc) one (from 41) ≡ Err (refuse_of links)
   -- two codes and a chained info with one
   codes_of_all_lem : count_all_codes_of (row ++ two ++ to 60 ++ alloc) one (from 40) ≡ totals 1 3
-  chained_code_refused : count_all_codes_of (row ++ chain 1 40 ++ bad) one (from 40) ≡ Refused (refuse_of operation)
+  chained_code_refused : count_all_codes_of (row ++ chain 1 40 ++ bad) one (from 40) ≡ Err (refuse_of operation)
   -- a code is refused before the link after it, which lies in no section; and with a code that is decoded, it does
-  code_before_the_link : count_all_codes_of (row ++ bad_push ++ to 5000) one (from 40) ≡ Refused (refuse_of operation)
-  link_in_no_section : count_all_codes_of (row ++ push ++ to 5000) one (from 40) ≡ Refused (refuse_of no_section)
+  code_before_the_link : count_all_codes_of (row ++ bad_push ++ to 5000) one (from 40) ≡ Err (refuse_of operation)
+  link_in_no_section : count_all_codes_of (row ++ push ++ to 5000) one (from 40) ≡ Err (refuse_of no_section)
   -- the 33rd is 8 after the codes of the info that asks for it, and before anything after it is mapped
-  codes_before_the_limit : count_all_codes_of (row ++ chain 32 40 ++ bad_push ++ to 5000) one (from 40) ≡ Refused (refuse_of operation)
-  limit_before_the_section : count_all_codes_of (row ++ chain 32 40 ++ push ++ to 5000) one (from 40) ≡ Refused (refuse_of links)
-  record_refers_to_itself : count_all_codes_of (row ++ to 41) one (from 41) ≡ Refused (refuse_of links)
-  info_chained_to_itself : count_all_codes_of (row ++ (33 ∷ 0 ∷ 0 ∷ 0 ∷ []) ++ to 40) one (from 40) ≡ Refused (refuse_of links)
-  chain_field_missing : count_all_codes_of (row ++ (33 ∷ 0 ∷ 0 ∷ 0 ∷ [])) one (from 40) ≡ Refused (refuse_of short)
+  codes_before_the_limit : count_all_codes_of (row ++ chain 32 40 ++ bad_push ++ to 5000) one (from 40) ≡ Err (refuse_of operation)
+  limit_before_the_section : count_all_codes_of (row ++ chain 32 40 ++ push ++ to 5000) one (from 40) ≡ Err (refuse_of links)
+  record_refers_to_itself : count_all_codes_of (row ++ to 41) one (from 41) ≡ Err (refuse_of links)
+  info_chained_to_itself : count_all_codes_of (row ++ (33 ∷ 0 ∷ 0 ∷ 0 ∷ []) ++ to 40) one (from 40) ≡ Err (refuse_of links)
+  chain_field_missing : count_all_codes_of (row ++ (33 ∷ 0 ∷ 0 ∷ 0 ∷ [])) one (from 40) ≡ Err (refuse_of short)
 
 counts : Counts
 unfolding chain_from link_at must locate_info_of locate_from place_of record_at_of find_offset_of power_below first_section row_at holds readable_size up
@@ -165,19 +165,19 @@ second slot =
       slot = slot;
     }
 
-abbrev taken : ℕ → UnwindOperation → ChainCursor → NextChainCode
-taken offset o k = next.Code (record { code = record { code_offset = offset; operation = o }; next = k })
+abbrev taken : ℕ → UnwindOperation → ChainCursor → Result NextChainCode Refusal
+taken offset o k = Ok (next.Code (record { code = record { code_offset = offset; operation = o }; next = k }))
 
 record Steps : Type 0 where
-  starts : start_chain_of image one (from 40) ≡ start.Value (record { begin = 100; cursor = first 0 })
+  starts : start_chain_of image one (from 40) ≡ Ok (record { begin = 100; cursor = first 0 })
   first_code : next_chain_code_of image one (first 0) ≡ taken 8 (PushNonVolatile (general 3)) (first 1)
   second_code : next_chain_code_of image one (first 1) ≡ taken 4 (Alloc 8) (first 2)
-  next_info : next_chain_code_of image one (first 2) ≡ next.Info (second 0)
+  next_info : next_chain_code_of image one (first 2) ≡ Ok (next.Info (second 0))
   last_code : next_chain_code_of image one (second 0) ≡ taken 4 (Alloc 40) (second 1)
-  ends : next_chain_code_of image one (second 1) ≡ next.End
+  ends : next_chain_code_of image one (second 1) ≡ Ok next.End
   -- a forged slot after the last is the end of the info; slots that are not in the file are 1
-  far_slot : next_chain_code_of image one (second 1000) ≡ next.End
-  no_slots : next_chain_code_of row one (first 0) ≡ next.Refused (refuse_of short)
+  far_slot : next_chain_code_of image one (second 1000) ≡ Ok next.End
+  no_slots : next_chain_code_of row one (first 0) ≡ Err (refuse_of short)
 
 steps : Steps
 unfolding next_chain_code_of code_at code_in after_codes info_at read_info_of must locate_info_of locate_from place_of record_at_of find_offset_of power_below

@@ -1,6 +1,9 @@
 -- What is proved of chains, for every input. That a function answers its definition is its contract (src/lib.rt); that the cursor walks the
 -- codes of a chain is `chain_walked` (Walk).
 -- Assumes nothing.
+use Rattle.unwind_chain.specs.declared.Totals.{Totals}
+use Rattle.unwind_chain.specs.declared.ChainStart.{ChainStart}
+use Rattle.std.specs.Prelude.{Result, Ok, Err, Some, None, ℕ, List, ◌≡◌}
 use mathlib.Core.Path.{◌≡◌, refl, sym, ap, ◌∙◌}
 use mathlib.Core.List.{List, [], ◌∷◌, ◌++◌}
 use mathlib.Core.Bool.{Bool, true, false}
@@ -12,30 +15,22 @@ use Rattle.answer.specs.Test.{file_limit}
 use Rattle.answer.specs.declared.Refusal.{Refusal}
 use Rattle.answer.proofs.Unique.{same}
 use Rattle.runtime_function.specs.declared.RuntimeFunction.{RuntimeFunction}
-use Rattle.runtime_function.specs.declared.ReadRuntimeFunction.TheVariants as function
 use Rattle.pe_mapping.specs.Mapping.{find_offset_of}
 use Rattle.pe_mapping.specs.declared.Sections.{Sections}
-use Rattle.pe_mapping.specs.declared.FindOffset.TheVariants as mapped
 use Rattle.unwind_operation.specs.declared.UnwindCode.{UnwindCode}
 use Rattle.unwind_info.specs.declared.UnwindInfo.{UnwindInfo}
 use Rattle.unwind_info.specs.declared.Follows.{Follows}
 use Rattle.unwind_info.specs.declared.Follows.TheVariants.{Nothing, Chained, Handler}
 use Rattle.unwind_codes.specs.Codes.{has, whole_info_at}
 use Rattle.unwind_links.specs.Links.{link_limit, record_at_of, place_of, locate_info_of, first_info_of, next_info_of}
-use Rattle.unwind_links.specs.declared.LocateInfo.TheVariants as locate
 use Rattle.unwind_links.specs.declared.ReachedInfo.{ReachedInfo}
-use Rattle.unwind_links.specs.declared.ReachInfo.TheVariants as reach
-use Rattle.unwind_links.specs.declared.NextInfo.TheVariants as next
 use Rattle.unwind_links.proofs.Laws.{place_there, located_told, located_odd, next_nothing, next_handler, next_info}
 use Rattle.unwind_links.proofs.Theorems.{at_once as no_odds, thirty_two_pass as places_pass, thirty_three_refused as place_refused}
 use Rattle.unwind_array.specs.Arrays.{Frame, CodeArray, ChainCode, codes_from, codes_in, outer_codes, joined_of}
 use Rattle.unwind_chain.specs.Chain.{Link, link_at, Chain, ReadChain, chain, refused_chain, on_chain, single, before, chain_from, info_limit, chain_of, array_of, arrays_of_links, arrays_of, last_links, codes_of_all, count_all_codes_of}
 use Rattle.unwind_chain.specs.Cursor.{start_chain_of, next_chain_code_of}
-use Rattle.unwind_chain.specs.Answers.{answer_count_all_codes, count_count_all_codes}
-use Rattle.unwind_chain.specs.declared.CountAllCodes.{CountAllCodes}
-use Rattle.unwind_chain.specs.declared.CountAllCodes.TheVariants as count
+use Rattle.unwind_chain.specs.Answers.{answer_count_all_codes, count_count_all_codes, totals_numbers}
 use Rattle.unwind_chain.specs.declared.ChainCursor.{ChainCursor}
-use Rattle.unwind_chain.specs.declared.StartChain.{StartChain}
 use Rattle.unwind_chain.specs.declared.NextChainCode.{NextChainCode}
 use Rattle.unwind_chain.proofs.Laws.{Located, link_unlocated, located_link, chain_by, chain_is, over, chain_at, chain_at_lem}
 use Rattle.unwind_chain.proofs.Walk.{NotChained, Chains, last_info, more_infos, chain_told, chain_of_lem, head_of, reached_of, reached_link}
@@ -65,12 +60,12 @@ chain_few s sections r c e =
 
 -- from an info of a chain, `next_info` goes through those after it
 pub data Visits (s : List ℕ) (sections : Sections) : Link → List Link → Type 0 where
-  visits_end : {l : Link} → next.End ≡ next_info_of s sections (reached_of l) → Visits s sections l []
-  visits_on : {l m : Link} {ms : List Link} → next.Value (reached_of m) ≡ next_info_of s sections (reached_of l) → Visits s sections m ms →
+  visits_end : {l : Link} → Ok None ≡ next_info_of s sections (reached_of l) → Visits s sections l []
+  visits_on : {l m : Link} {ms : List Link} → Ok (Some (reached_of m)) ≡ next_info_of s sections (reached_of l) → Visits s sections m ms →
       Visits s sections l (m ∷ ms)
 
 no_next : (s : List ℕ) (sections : Sections) (at : ReachedInfo) → length s ≤ file_limit → (f : Follows) → at.info.follows ≡ f
-    → NotChained f → next.End ≡ next_info_of s sections at
+    → NotChained f → Ok None ≡ next_info_of s sections at
 no_next s sections at b Nothing e h = next_nothing s sections at b e
 no_next s sections at b (Chained r) e h = absurd h
 no_next s sections at b (Handler y) e h = next_handler s sections at b e
@@ -88,7 +83,7 @@ visits {s} {sections} {r} {n} l (m ∷ ms) (more_infos {e = e} p f h) =
 -- 12.6: The first info of a chain is the one that `first_info` reaches, and each other the one that `next_info` reaches from the one before
 -- it.
 pub chain_visited : (s : List ℕ) (sections : Sections) (r : RuntimeFunction) (c : Chain) → chain c ≡ chain_of s sections r
-    → (reach.Value (reached_of c.found) ≡ first_info_of s sections r) × Visits s sections c.found c.outer
+    → (Ok (reached_of c.found) ≡ first_info_of s sections r) × Visits s sections c.found c.outer
 chain_visited s sections r c e =
     let h = chain_told s sections info_limit r 0 c e in
     (reached_link s sections r 0 c.found (head_of h), visits c.found c.outer h)
@@ -96,13 +91,13 @@ chain_visited s sections r c e =
 -- a record names an info by its own, even address
 pub record Names (s : List ℕ) (sections : Sections) (r : RuntimeFunction) (o : ℕ) (i : UnwindInfo) (cs : List UnwindCode) : Type 0 where
   pub even : r.unwind % 2 ≡ 1 → ⊥
-  pub place : mapped.Value o ≡ find_offset_of s sections r.unwind
+  pub place : Ok o ≡ find_offset_of s sections r.unwind
   pub whole : has i cs ≡ whole_info_at s o
 
 -- `n` links lead from the record `r` to the record `e`: odd addresses and chained infos count alike
 pub data Leads (s : List ℕ) (sections : Sections) : ℕ → RuntimeFunction → RuntimeFunction → Type 0 where
   at_once : {r : RuntimeFunction} → Leads s sections 0 r r
-  by_odd : {n : ℕ} {r m e : RuntimeFunction} → r.unwind % 2 ≡ 1 → function.Value m ≡ record_at_of s sections (r.unwind - 1) →
+  by_odd : {n : ℕ} {r m e : RuntimeFunction} → r.unwind % 2 ≡ 1 → Ok m ≡ record_at_of s sections (r.unwind - 1) →
       Leads s sections n m e → Leads s sections (suc n) r e
   by_chain : {n o : ℕ} {i : UnwindInfo} {cs : List UnwindCode} {r m e : RuntimeFunction} → Names s sections r o i cs →
       i.follows ≡ Chained m → Leads s sections n m e → Leads s sections (suc n) r e
@@ -137,17 +132,17 @@ module _ (s : List ℕ) (sections : Sections) (b : length s ≤ file_limit) wher
       → Located s sections r n (named r o i cs n)
   named_there n h {r} {o} {i} {cs} d =
       let z : n + 0 ≡ n = omega arith in
-      let p : locate.Value (named r o i cs n).place ≡ place_of s sections r n = place_there s sections r n d.place refl in
+      let p : Ok (named r o i cs n).place ≡ place_of s sections r n = place_there s sections r n d.place refl in
       let q : place_of s sections r (n + 0) ≡ locate_info_of s sections r n =
       places_pass s sections n 0 r r b (omega arith) no_odds d.even in
       record { place = p ∙ ap (place_of s sections r) (sym z) ∙ q; whole = d.whole }
 
-  odd_link : (n : ℕ) → n < 32 → (r m : RuntimeFunction) → r.unwind % 2 ≡ 1 → function.Value m ≡ record_at_of s sections (r.unwind - 1)
+  odd_link : (n : ℕ) → n < 32 → (r m : RuntimeFunction) → r.unwind % 2 ≡ 1 → Ok m ≡ record_at_of s sections (r.unwind - 1)
       → link_at s sections m (n + 1) ≡ link_at s sections r n
   unfolding link_at
   odd_link n h r m o e = rw (located_odd s sections r n b h o e)
 
-  odd_chain : (n : ℕ) → n < 32 → (r m : RuntimeFunction) → r.unwind % 2 ≡ 1 → function.Value m ≡ record_at_of s sections (r.unwind - 1)
+  odd_chain : (n : ℕ) → n < 32 → (r m : RuntimeFunction) → r.unwind % 2 ≡ 1 → Ok m ≡ record_at_of s sections (r.unwind - 1)
       → chain_at s sections m (n + 1) ≡ chain_at s sections r n
   odd_chain n h r m o e =
       chain_at_lem s sections m (n + 1)
@@ -208,7 +203,7 @@ module _ (s : List ℕ) (sections : Sections) (b : length s ≤ file_limit) wher
       (over s sections info_limit m 33 b (omega arith))
       ∙ chained_chain 32 (omega arith) d f)
 
-  odd_self : (n : ℕ) (r : RuntimeFunction) → r.unwind % 2 ≡ 1 → function.Value r ≡ record_at_of s sections (r.unwind - 1)
+  odd_self : (n : ℕ) (r : RuntimeFunction) → r.unwind % 2 ≡ 1 → Ok r ≡ record_at_of s sections (r.unwind - 1)
       → Leads s sections n r r
   odd_self zero r o e = at_once
   odd_self (suc n) r o e = by_odd o e (odd_self n r o e)
@@ -219,7 +214,7 @@ module _ (s : List ℕ) (sections : Sections) (b : length s ≤ file_limit) wher
   chained_self (suc n) r o i cs d f = by_chain d f (chained_self n r o i cs d f)
 
   -- 12.4: A record whose odd address refers to itself is 8 ..
-  pub self_refused : (r : RuntimeFunction) → r.unwind % 2 ≡ 1 → function.Value r ≡ record_at_of s sections (r.unwind - 1)
+  pub self_refused : (r : RuntimeFunction) → r.unwind % 2 ≡ 1 → Ok r ≡ record_at_of s sections (r.unwind - 1)
       → refused_chain (refuse_of links) ≡ chain_of s sections r
   self_refused r o e = thirty_third_odd r r (odd_self 32 r o e) o
 
@@ -248,20 +243,24 @@ count_joined c =
     ∙ ap (λ (n : ℕ). length c.found.codes + n) (many_outer c.outer)
 
 -- Two answers that meet a promise of this crate are equal.
-pub count_all_codes_unique : (s : List ℕ) (sections : Sections) (r : RuntimeFunction) {x y : CountAllCodes}
+pub count_all_codes_unique : (s : List ℕ) (sections : Sections) (r : RuntimeFunction) {x y : Result Totals Refusal}
     → x ≡ count_all_codes_of s sections r
     → y ≡ count_all_codes_of s sections r → x ≡ y
 count_all_codes_unique s sections r = same
 
-pub start_chain_unique : (s : List ℕ) (sections : Sections) (r : RuntimeFunction) {x y : StartChain} → x ≡ start_chain_of s sections r
+pub start_chain_unique : (s : List ℕ) (sections : Sections) (r : RuntimeFunction) {x y : Result ChainStart Refusal} → x ≡ start_chain_of s sections r
     → y ≡ start_chain_of s sections r → x ≡ y
 start_chain_unique s sections r = same
 
-pub next_chain_code_unique : (s : List ℕ) (sections : Sections) (k : ChainCursor) {x y : NextChainCode} → x ≡ next_chain_code_of s sections k
+pub next_chain_code_unique : (s : List ℕ) (sections : Sections) (k : ChainCursor) {x y : Result NextChainCode Refusal} → x ≡ next_chain_code_of s sections k
     → y ≡ next_chain_code_of s sections k → x ≡ y
 next_chain_code_unique s sections k = same
 
 -- Each answer has as many numbers as it says, zeros where it is refused.
-pub count_all_codes_count : (a : CountAllCodes) → length (values count_count_all_codes (answer_count_all_codes a)) ≡ count_count_all_codes
-count_all_codes_count (count.Value t) = refl
-count_all_codes_count (count.Refused k) = refl
+pub count_all_codes_count : (a : Result Totals Refusal) → length (values count_count_all_codes (answer_count_all_codes a)) ≡ count_count_all_codes
+count_all_codes_count (Ok t) = refl
+count_all_codes_count (Err k) = refl
+
+-- The numbers that it stands for are fixed.
+pub numbers_unique : (a : Totals) {r q : List ℕ} → r ≡ totals_numbers a → q ≡ totals_numbers a → r ≡ q
+numbers_unique a = same

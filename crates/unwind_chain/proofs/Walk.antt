@@ -1,5 +1,7 @@
 -- The cursor walks a chain: from where `start_chain` puts it, it comes to each code of the one list in turn, passes each info, and ends.
 -- Assumes nothing.
+use Rattle.std.specs.Prelude.{Result, Ok, Err}
+use Rattle.answer.specs.Answer.{on_ok, limit, cut_of}
 use mathlib.Core.Path.{◌≡◌, refl, sym, ap, ◌∙◌}
 use mathlib.Core.List.{List, [], ◌∷◌, ◌++◌}
 use mathlib.Core.Bool.{Bool, true, false}
@@ -9,7 +11,6 @@ use native.Mathlib.Omega.{arith}
 use lib.ListN.{length, drop, length-take, length-drop}
 use lib.Dec.{leb, ltb, eqb}
 use borrow.Author.Tests.{leb-true, ne_eqb}
-use Rattle.answer.specs.Answer.{limit, cut_of}
 use Rattle.answer.specs.Test.{pick, must, file_limit}
 use Rattle.answer.specs.declared.Reason.{Reason}
 use Rattle.answer.specs.declared.Refusal.{Refusal}
@@ -17,11 +18,8 @@ use Rattle.fields.proofs.Laws.{le_or_lt}
 use Rattle.runtime_function.specs.declared.RuntimeFunction.{RuntimeFunction}
 use Rattle.pe_mapping.specs.declared.Sections.{Sections}
 use Rattle.unwind_operation.specs.Operation.{slot_count, next_code_of}
-use Rattle.unwind_operation.specs.Answers.{on_next_code}
 use Rattle.unwind_operation.specs.declared.UnwindCode.{UnwindCode}
 use Rattle.unwind_operation.specs.declared.TakenCode.{TakenCode}
-use Rattle.unwind_operation.specs.declared.NextCode.{NextCode}
-use Rattle.unwind_operation.specs.declared.NextCode.TheVariants as decoded
 use Rattle.unwind_operation.proofs.Laws.{code_within}
 use Rattle.unwind_info.specs.Unwind.{codes_end}
 use Rattle.unwind_info.specs.declared.UnwindHeader.{UnwindHeader}
@@ -30,19 +28,15 @@ use Rattle.unwind_info.specs.declared.Follows.TheVariants.{Nothing, Chained, Han
 use Rattle.unwind_codes.specs.Codes.{CodesEnd, whole, stopped, Codes, refused_here, preceded, codes_at, slots_of, codes_of}
 use Rattle.unwind_codes.proofs.Laws.{all, codes_end_lem, codes_refused, codes_more, whole_slots, whole_info}
 use Rattle.unwind_links.specs.Links.{link_limit, locate_info_of, info_at, chained_info_of, on_chained}
-use Rattle.unwind_links.specs.Answers.{on_reach_info}
 use Rattle.unwind_links.specs.declared.ReachedInfo.{ReachedInfo}
-use Rattle.unwind_links.specs.declared.ReachInfo.{ReachInfo}
-use Rattle.unwind_links.specs.declared.ReachInfo.TheVariants as reach
 use Rattle.unwind_links.proofs.Laws.{located_told, reached_told, info_there}
 use Rattle.unwind_array.specs.Arrays.{CodeArray, ChainCode, codes_from, outer_codes, joined_of}
 use Rattle.unwind_chain.specs.Chain.{Link, ReadLink, link, refused_link, link_at, Chain, ReadChain, chain, refused_chain, on_chain, single, before, chain_from, info_limit, chain_of, frame_of, arrays_of_links, arrays_of}
 use Rattle.unwind_chain.specs.Cursor.{cursor_at, at_slot, start_chain_of, code_in, code_at, after_codes, next_chain_code_of}
 use Rattle.unwind_chain.specs.declared.ChainCursor.{ChainCursor}
-use Rattle.unwind_chain.specs.declared.StartChain.TheVariants as start
 use Rattle.unwind_chain.specs.declared.TakenChainCode.{TakenChainCode}
 use Rattle.unwind_chain.specs.declared.NextChainCode.{NextChainCode}
-use Rattle.unwind_chain.specs.declared.NextChainCode.TheVariants.{Code, Info, End, Refused}
+use Rattle.unwind_chain.specs.declared.NextChainCode.TheVariants.{Code, Info, End}
 use Rattle.unwind_chain.proofs.Laws.{Located, link_told, located_link, chain_by, chain_at, chain_at_lem}
 use Rattle.unwind_chain.proofs.Next.{start_there, code_taken, code_inside, after_nothing, after_handler, after_info, next_code, next_after}
 
@@ -113,21 +107,21 @@ reached_of l = record { place = l.place; info = l.info }
 
 -- a located info is the one that is reached there
 pub reached_link : (s : List ℕ) (sections : Sections) (r : RuntimeFunction) (n : ℕ) (l : Link) → Located s sections r n l
-    → reach.Value (reached_of l) ≡ info_at s (locate_info_of s sections r n)
+    → Ok (reached_of l) ≡ info_at s (locate_info_of s sections r n)
 reached_link s sections r n l p = info_there s (sym p.place) (whole_info s l.place.offset p.whole) refl
 
 -- From the cursor, the codes `cs` of its info are still to come, and then `arrays`, those of the infos after it.
 pub data Walks (s : List ℕ) (sections : Sections) : ChainCursor → List UnwindCode → List CodeArray → Type 0 where
   -- a code of the cursor's info, and the cursor after it
   walks_code : {k : ChainCursor} {t : TakenChainCode} {cs : List UnwindCode} {arrays : List CodeArray}
-      → Code t ≡ next_chain_code_of s sections k →
+      → Ok (Code t) ≡ next_chain_code_of s sections k →
       Walks s sections t.next cs arrays → Walks s sections k (t.code ∷ cs) arrays
   -- no further code, and the cursor at the first slot of the next info, whose header is that of the next array
-  walks_info : {k x : ChainCursor} {a : CodeArray} {arrays : List CodeArray} → Info x ≡ next_chain_code_of s sections k →
+  walks_info : {k x : ChainCursor} {a : CodeArray} {arrays : List CodeArray} → Ok (Info x) ≡ next_chain_code_of s sections k →
       frame_of x.header ≡ a.frame → x.header.size_of_prolog ≡ a.prolog → Walks s sections x a.codes arrays →
       Walks s sections k [] (a ∷ arrays)
   -- no further info
-  walks_end : {k : ChainCursor} → End ≡ next_chain_code_of s sections k → Walks s sections k [] []
+  walks_end : {k : ChainCursor} → Ok End ≡ next_chain_code_of s sections k → Walks s sections k [] []
 
 -- how many slots an info has, where they lie in the file
 slots_count : (s : List ℕ) (h : UnwindHeader) → codes_end h ≤ length s → slot_count (slots_of s h) ≡ h.count_of_codes
@@ -145,14 +139,14 @@ never_stopped e = stop_never (ap (λ (x : Codes). x.end) e)
 -- a code at a slot, where all codes from there on are decoded
 record Turn (slots : List ℕ) (v frame at : ℕ) (cs : List UnwindCode) : Type 0 where
   pub taken : TakenCode
-  pub is : decoded.Value taken ≡ next_code_of slots at v frame
+  pub is : Ok taken ≡ next_code_of slots at v frame
   pub more : List UnwindCode
   pub list : cs ≡ taken.code ∷ more
   pub codes : all more ≡ codes_at slots taken.next v frame
 
 module _ (slots : List ℕ) (v frame at : ℕ) (cs : List UnwindCode) (h : at < slot_count slots) (e : all cs ≡ codes_at slots at v frame) where
-  turn_by_lem : (x : NextCode) → x ≡ next_code_of slots at v frame → Turn slots v frame at cs
-  turn_by_lem (decoded.Value t) d =
+  turn_by_lem : (x : Result TakenCode Refusal) → x ≡ next_code_of slots at v frame → Turn slots v frame at cs
+  turn_by_lem (Ok t) d =
       let ds = codes_at slots t.next v frame in
       let f : all cs ≡ preceded t.code ds = e ∙ sym (codes_more slots v frame at h d refl) in
       record {
@@ -162,7 +156,7 @@ module _ (slots : List ℕ) (v frame at : ℕ) (cs : List UnwindCode) (h : at < 
         list = ap (λ (x : Codes). x.listed) f;
         codes = ap (λ (z : CodesEnd). record { listed = ds.listed; end = z }) (ap (λ (x : Codes). x.end) f);
       }
-  turn_by_lem (decoded.Refused k) d = absurd (never_stopped (e ∙ sym (codes_refused slots v frame at h d refl)))
+  turn_by_lem (Err k) d = absurd (never_stopped (e ∙ sym (codes_refused slots v frame at h d refl)))
 
   turn : Turn slots v frame at cs
   turn = turn_by_lem (next_code_of slots at v frame) refl
@@ -222,7 +216,7 @@ pub head_of : {s : List ℕ} {sections : Sections} {r : RuntimeFunction} {n : �
 head_of (last_info p h) = p
 head_of (more_infos p f h) = p
 
-ended : (s : List ℕ) (sections : Sections) (k : ChainCursor) (f : Follows) → k.follows ≡ f → NotChained f → End ≡ after_codes s sections k
+ended : (s : List ℕ) (sections : Sections) (k : ChainCursor) (f : Follows) → k.follows ≡ f → NotChained f → Ok End ≡ after_codes s sections k
 ended s sections k Nothing e h = after_nothing s sections k e
 ended s sections k (Chained r) e h = absurd h
 ended s sections k (Handler y) e h = after_handler s sections k e
@@ -272,124 +266,124 @@ pub record Passed (k x : ChainCursor) : Type 0 where
   pub first : x.slot ≡ 0
   pub outer : x.found ≡ false
 
-same_code : {t u : TakenChainCode} → Code t ≡ Code u → t ≡ u
+same_code : {t u : TakenChainCode} → ◌≡◌ {A = Result NextChainCode Refusal} (Ok (Code t)) (Ok (Code u)) → t ≡ u
 same_code e = cc
 
-same_info : {x y : ChainCursor} → Info x ≡ Info y → x ≡ y
+same_info : {x y : ChainCursor} → ◌≡◌ {A = Result NextChainCode Refusal} (Ok (Info x)) (Ok (Info y)) → x ≡ y
 same_info e = cc
 
-code_info : {t : TakenChainCode} {x : ChainCursor} → Code t ≡ Info x → ⊥
+code_info : {t : TakenChainCode} {x : ChainCursor} → ◌≡◌ {A = Result NextChainCode Refusal} (Ok (Code t)) (Ok (Info x)) → ⊥
 code_info e = let z : ◌≡◌ {A = ℕ} 0 1 = cc in omega arith
 
-code_end : {t : TakenChainCode} → Code t ≡ End → ⊥
+code_end : {t : TakenChainCode} → ◌≡◌ {A = Result NextChainCode Refusal} (Ok (Code t)) (Ok End) → ⊥
 code_end e = let z : ◌≡◌ {A = ℕ} 0 1 = cc in omega arith
 
-code_never : {t : TakenChainCode} {q : Refusal} → Code t ≡ Refused q → ⊥
+code_never : {t : TakenChainCode} {q : Refusal} → ◌≡◌ {A = Result NextChainCode Refusal} (Ok (Code t)) (Err q) → ⊥
 code_never e = let z : ◌≡◌ {A = ℕ} 0 1 = cc in omega arith
 
-info_end : {x : ChainCursor} → Info x ≡ End → ⊥
+info_end : {x : ChainCursor} → ◌≡◌ {A = Result NextChainCode Refusal} (Ok (Info x)) (Ok End) → ⊥
 info_end e = let z : ◌≡◌ {A = ℕ} 0 1 = cc in omega arith
 
-info_never : {x : ChainCursor} {q : Refusal} → Info x ≡ Refused q → ⊥
+info_never : {x : ChainCursor} {q : Refusal} → ◌≡◌ {A = Result NextChainCode Refusal} (Ok (Info x)) (Err q) → ⊥
 info_never e = let z : ◌≡◌ {A = ℕ} 0 1 = cc in omega arith
 
-end_never : {q : Refusal} → End ≡ Refused q → ⊥
+end_never : {q : Refusal} → ◌≡◌ {A = Result NextChainCode Refusal} (Ok End) (Err q) → ⊥
 end_never e = let z : ◌≡◌ {A = ℕ} 0 1 = cc in omega arith
 
 -- what an answer tells that is no refusal
-by_must : (test : Bool) (why : Reason) (x y : NextChainCode) → ((q : Refusal) → y ≡ Refused q → ⊥) → y ≡ must Refused test why x → y ≡ x
+by_must : (test : Bool) (why : Reason) (x y : Result NextChainCode Refusal) → ((q : Refusal) → y ≡ Err q → ⊥) → y ≡ must Err test why x → y ≡ x
 unfolding must
 by_must true why x y f e = e
 by_must false why x y f e = absurd (f _ e)
 
 module _ (s : List ℕ) (sections : Sections) (k : ChainCursor) where
   -- a code is at the cursor's slot
-  onward_in : (x : NextCode) {t : TakenChainCode}
+  onward_in : (x : Result TakenCode Refusal) {t : TakenChainCode}
       → x ≡ next_code_of (slots_of s k.header) k.slot k.header.version k.header.frame_register.0
       → codes_end k.header ≤ length s
-      → Code t ≡ on_next_code x Refused (λ u. Code (record { code = u.code; next = at_slot k u.next })) → Onward k t
-  onward_in (decoded.Value u) d i e =
+      → Ok (Code t) ≡ on_ok x Err (λ u. Ok (Code (record { code = u.code; next = at_slot k u.next }))) → Onward k t
+  onward_in (Ok u) d i e =
       let w = code_within (slots_of s k.header) k.slot k.header.version k.header.frame_register.0 d in
       let n = slots_count s k.header i in
       rw (same_code e) (record { same = refl; later = omega (arith, w.first); inside = omega (arith, w.last, n) })
-  onward_in (decoded.Refused q) d i e = absurd (code_never e)
+  onward_in (Err q) d i e = absurd (code_never e)
 
   onward_at : (test : Bool) {t : TakenChainCode} → leb (codes_end k.header) (length s) ≡ test
-      → Code t ≡ pick test (code_in (slots_of s k.header) k) (Refused (cut_of (codes_end k.header))) → Onward k t
+      → Ok (Code t) ≡ pick test (code_in (slots_of s k.header) k) (Err (cut_of (codes_end k.header))) → Onward k t
   unfolding code_in
   onward_at true d e =
       onward_in (next_code_of (slots_of s k.header) k.slot k.header.version k.header.frame_register.0) refl
       (leb-true (codes_end k.header) (length s) d) e
   onward_at false d e = absurd (code_never e)
 
-  no_code_by : (x : ReachInfo) {t : TakenChainCode}
-      → Code t ≡ on_reach_info x Refused (λ y. Info (cursor_at y.place.links y.info false)) → ⊥
-  no_code_by (reach.Value y) e = code_info e
-  no_code_by (reach.Refused q) e = code_never e
+  no_code_by : (x : Result ReachedInfo Refusal) {t : TakenChainCode}
+      → Ok (Code t) ≡ on_ok x Err (λ y. Ok (Info (cursor_at y.place.links y.info false))) → ⊥
+  no_code_by (Ok y) e = code_info e
+  no_code_by (Err q) e = code_never e
 
   no_code_after : (f : Follows) {t : TakenChainCode}
-      → Code t
-      ≡ on_chained f End (λ r.
-      on_reach_info (chained_info_of s sections r k.links) Refused (λ y. Info (cursor_at y.place.links y.info false))) → ⊥
+      → Ok (Code t)
+      ≡ on_chained f (Ok End) (λ r.
+      on_ok (chained_info_of s sections r k.links) Err (λ y. Ok (Info (cursor_at y.place.links y.info false)))) → ⊥
   no_code_after Nothing e = code_end e
   no_code_after (Chained r) e = no_code_by (chained_info_of s sections r k.links) e
   no_code_after (Handler y) e = code_end e
 
-  onward_by_lem : (test : Bool) {t : TakenChainCode} → Code t ≡ pick test (code_at s k) (after_codes s sections k) → Onward k t
+  onward_by_lem : (test : Bool) {t : TakenChainCode} → Ok (Code t) ≡ pick test (code_at s k) (after_codes s sections k) → Onward k t
   unfolding code_at after_codes
   onward_by_lem true e = onward_at (leb (codes_end k.header) (length s)) refl e
   onward_by_lem false e = absurd (no_code_after k.follows e)
 
-  pub code_onward : {t : TakenChainCode} → Code t ≡ next_chain_code_of s sections k → Onward k t
+  pub code_onward : {t : TakenChainCode} → Ok (Code t) ≡ next_chain_code_of s sections k → Onward k t
   unfolding next_chain_code_of
   code_onward {t} e =
       onward_by_lem (ltb k.slot k.header.count_of_codes)
-      (by_must (leb (length s) file_limit) limit _ (Code t) (λ q f. code_never f) e)
+      (by_must (leb (length s) file_limit) limit _ (Ok (Code t)) (λ q f. code_never f) e)
 
   -- the next info
-  passed_by : (r : RuntimeFunction) (x : ReachInfo) {o : ChainCursor} → x ≡ chained_info_of s sections r k.links
-      → Info o ≡ on_reach_info x Refused (λ y. Info (cursor_at y.place.links y.info false)) → Passed k o
-  passed_by r (reach.Value y) d e =
+  passed_by : (r : RuntimeFunction) (x : Result ReachedInfo Refusal) {o : ChainCursor} → x ≡ chained_info_of s sections r k.links
+      → Ok (Info o) ≡ on_ok x Err (λ y. Ok (Info (cursor_at y.place.links y.info false))) → Passed k o
+  passed_by r (Ok y) d e =
       let p = reached_told s (locate_info_of s sections r (k.links + 1)) d in
       let w = (located_told s sections r (k.links + 1) p.place).1 in
       rw (same_info e) (record { led = omega (arith, w.least); most = w.most; first = refl; outer = refl })
-  passed_by r (reach.Refused q) d e = absurd (info_never e)
+  passed_by r (Err q) d e = absurd (info_never e)
 
   passed_after : (f : Follows) {o : ChainCursor}
-      → Info o
-      ≡ on_chained f End (λ r.
-      on_reach_info (chained_info_of s sections r k.links) Refused (λ y. Info (cursor_at y.place.links y.info false))) → Passed k o
+      → Ok (Info o)
+      ≡ on_chained f (Ok End) (λ r.
+      on_ok (chained_info_of s sections r k.links) Err (λ y. Ok (Info (cursor_at y.place.links y.info false)))) → Passed k o
   passed_after Nothing e = absurd (info_end e)
   passed_after (Chained r) e = passed_by r (chained_info_of s sections r k.links) refl e
   passed_after (Handler y) e = absurd (info_end e)
 
-  no_info_in : (x : NextCode) {o : ChainCursor}
-      → Info o ≡ on_next_code x Refused (λ u. Code (record { code = u.code; next = at_slot k u.next })) → ⊥
-  no_info_in (decoded.Value u) e = code_info (sym e)
-  no_info_in (decoded.Refused q) e = info_never e
+  no_info_in : (x : Result TakenCode Refusal) {o : ChainCursor}
+      → Ok (Info o) ≡ on_ok x Err (λ u. Ok (Code (record { code = u.code; next = at_slot k u.next }))) → ⊥
+  no_info_in (Ok u) e = code_info (sym e)
+  no_info_in (Err q) e = info_never e
 
   no_info_at : (test : Bool) {o : ChainCursor}
-      → Info o ≡ pick test (code_in (slots_of s k.header) k) (Refused (cut_of (codes_end k.header))) → ⊥
+      → Ok (Info o) ≡ pick test (code_in (slots_of s k.header) k) (Err (cut_of (codes_end k.header))) → ⊥
   unfolding code_in
   no_info_at true e = no_info_in (next_code_of (slots_of s k.header) k.slot k.header.version k.header.frame_register.0) e
   no_info_at false e = info_never e
 
-  passed_test : (test : Bool) {o : ChainCursor} → Info o ≡ pick test (code_at s k) (after_codes s sections k) → Passed k o
+  passed_test : (test : Bool) {o : ChainCursor} → Ok (Info o) ≡ pick test (code_at s k) (after_codes s sections k) → Passed k o
   unfolding code_at after_codes
   passed_test true e = absurd (no_info_at (leb (codes_end k.header) (length s)) e)
   passed_test false e = passed_after k.follows e
 
-  pub info_passed : {o : ChainCursor} → Info o ≡ next_chain_code_of s sections k → Passed k o
+  pub info_passed : {o : ChainCursor} → Ok (Info o) ≡ next_chain_code_of s sections k → Passed k o
   unfolding next_chain_code_of
   info_passed {o} e =
       passed_test (ltb k.slot k.header.count_of_codes)
-      (by_must (leb (length s) file_limit) limit _ (Info o) (λ q f. info_never f) e)
+      (by_must (leb (length s) file_limit) limit _ (Ok (Info o)) (λ q f. info_never f) e)
 
 -- A number that falls with each step, whatever the cursor and the bytes: no walk is endless.
 abbrev pub measure : ChainCursor → ℕ
 measure k = (info_limit - k.links) * 256 + (k.header.count_of_codes - k.slot)
 
-pub code_smaller : (s : List ℕ) (sections : Sections) (k : ChainCursor) {t : TakenChainCode} → Code t ≡ next_chain_code_of s sections k
+pub code_smaller : (s : List ℕ) (sections : Sections) (k : ChainCursor) {t : TakenChainCode} → Ok (Code t) ≡ next_chain_code_of s sections k
     → measure t.next < measure k
 code_smaller s sections k {t} e =
     let o = code_onward s sections k e in
@@ -397,7 +391,7 @@ code_smaller s sections k {t} e =
     omega (arith, p, o.later, o.inside)
 
 -- a count of codes is a byte
-pub info_smaller : (s : List ℕ) (sections : Sections) (k : ChainCursor) {x : ChainCursor} → Info x ≡ next_chain_code_of s sections k
+pub info_smaller : (s : List ℕ) (sections : Sections) (k : ChainCursor) {x : ChainCursor} → Ok (Info x) ≡ next_chain_code_of s sections k
     → x.header.count_of_codes < 256 → measure x < measure k
 info_smaller s sections k {x} e h =
     let o = info_passed s sections k e in
@@ -450,14 +444,14 @@ pub record Entered (s : List ℕ) (sections : Sections) (k x : ChainCursor) (cs 
   pub come : to_come k cs arrays ≡ to_come x array.codes rest
 
 module _ (s : List ℕ) (sections : Sections) (k : ChainCursor) where
-  come_code : {t : TakenChainCode} → Code t ≡ next_chain_code_of s sections k → (cs : List UnwindCode) (arrays : List CodeArray)
+  come_code : {t : TakenChainCode} → Ok (Code t) ≡ next_chain_code_of s sections k → (cs : List UnwindCode) (arrays : List CodeArray)
       → to_come k (t.code ∷ cs) arrays ≡ chain_code k t.code ∷ to_come t.next cs arrays
   come_code {t} e cs arrays =
       let o = code_onward s sections k e in
       come_slot k t.next.slot (omega (arith, o.later)) t.code cs arrays
       ∙ ap (λ (x : ChainCursor). chain_code k t.code ∷ to_come x cs arrays) (sym o.same)
 
-  code_again : {t u : TakenChainCode} {cs : List UnwindCode} {arrays : List CodeArray} → u ≡ t → Code t ≡ next_chain_code_of s sections k
+  code_again : {t u : TakenChainCode} {cs : List UnwindCode} {arrays : List CodeArray} → u ≡ t → Ok (Code t) ≡ next_chain_code_of s sections k
       → Walks s sections u.next cs arrays → Taken s sections k t (u.code ∷ cs) arrays
   code_again {t} {u} {cs} {arrays} p e w =
       let f : u.code ≡ t.code = ap (λ (x : TakenChainCode). x.code) p in
@@ -468,7 +462,7 @@ module _ (s : List ℕ) (sections : Sections) (k : ChainCursor) where
         come = ap (λ (c : UnwindCode). to_come k (c ∷ cs) arrays) f ∙ come_code e cs arrays;
       }
 
-  info_again : {x o : ChainCursor} {a : CodeArray} {arrays : List CodeArray} → o ≡ x → Info x ≡ next_chain_code_of s sections k
+  info_again : {x o : ChainCursor} {a : CodeArray} {arrays : List CodeArray} → o ≡ x → Ok (Info x) ≡ next_chain_code_of s sections k
       → frame_of o.header ≡ a.frame → o.header.size_of_prolog ≡ a.prolog → Walks s sections o a.codes arrays
       → Entered s sections k x [] (a ∷ arrays)
   info_again {x} {o} {a} {arrays} p e f g w =
@@ -487,19 +481,19 @@ module _ (s : List ℕ) (sections : Sections) (k : ChainCursor) where
       }
 
   pub code_walked : {t : TakenChainCode} (cs : List UnwindCode) (arrays : List CodeArray) → Walks s sections k cs arrays
-      → Code t ≡ next_chain_code_of s sections k → Taken s sections k t cs arrays
+      → Ok (Code t) ≡ next_chain_code_of s sections k → Taken s sections k t cs arrays
   code_walked cs arrays (walks_code d w) e = code_again (same_code (d ∙ sym e)) e w
   code_walked cs arrays (walks_info d f g w) e = absurd (code_info (e ∙ sym d))
   code_walked cs arrays (walks_end d) e = absurd (code_end (e ∙ sym d))
 
   pub info_walked : {x : ChainCursor} (cs : List UnwindCode) (arrays : List CodeArray) → Walks s sections k cs arrays
-      → Info x ≡ next_chain_code_of s sections k → Entered s sections k x cs arrays
+      → Ok (Info x) ≡ next_chain_code_of s sections k → Entered s sections k x cs arrays
   info_walked cs arrays (walks_code d w) e = absurd (code_info (d ∙ sym e))
   info_walked cs arrays (walks_info d f g w) e = info_again (same_info (d ∙ sym e)) e f g w
   info_walked cs arrays (walks_end d) e = absurd (info_end (e ∙ sym d))
 
   -- .. at the end nothing is still to come ..
-  pub end_walked : (cs : List UnwindCode) (arrays : List CodeArray) → Walks s sections k cs arrays → End ≡ next_chain_code_of s sections k
+  pub end_walked : (cs : List UnwindCode) (arrays : List CodeArray) → Walks s sections k cs arrays → Ok End ≡ next_chain_code_of s sections k
       → (cs ≡ []) × (arrays ≡ []) × (to_come k cs arrays ≡ [])
   unfolding to_come
   end_walked cs arrays (walks_code d w) e = absurd (code_end (d ∙ sym e))
@@ -508,7 +502,7 @@ module _ (s : List ℕ) (sections : Sections) (k : ChainCursor) where
 
   -- .. and nothing is refused.
   pub never_refused : {q : Refusal} (cs : List UnwindCode) (arrays : List CodeArray) → Walks s sections k cs arrays
-      → Refused q ≡ next_chain_code_of s sections k → ⊥
+      → Err q ≡ next_chain_code_of s sections k → ⊥
   never_refused cs arrays (walks_code d w) e = code_never (d ∙ sym e)
   never_refused cs arrays (walks_info d f g w) e = info_never (d ∙ sym e)
   never_refused cs arrays (walks_end d) e = end_never (d ∙ sym e)
@@ -520,7 +514,7 @@ start_of c = cursor_of c.found true
 -- A chain that was read is walked from its start: the codes of the found info, then the arrays of those that it is chained to; and what is
 -- still to come there is the one list.
 pub record Walked (s : List ℕ) (sections : Sections) (r : RuntimeFunction) (c : Chain) : Type 0 where
-  pub starts : start.Value (record { begin = c.found.place.begin; cursor = start_of c }) ≡ start_chain_of s sections r
+  pub starts : Ok (record { begin = c.found.place.begin; cursor = start_of c }) ≡ start_chain_of s sections r
   pub walks : Walks s sections (start_of c) (arrays_of c).found.codes (arrays_of c).outer
   pub come : to_come (start_of c) (arrays_of c).found.codes (arrays_of c).outer ≡ joined_of (arrays_of c)
 

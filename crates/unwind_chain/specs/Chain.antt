@@ -1,7 +1,8 @@
 -- The chain of a runtime record: the info that it reaches, and each info that the one before is chained to, with all their codes.
 -- Assumes nothing.
-use Rattle.std.specs.Prelude.{ℕ, zero, suc, ◌+◌, List, [], ◌∷◌, length}
-use Rattle.answer.specs.Answer.{refuse_of, links}
+use Rattle.unwind_chain.specs.declared.Totals.{Totals}
+use Rattle.std.specs.Prelude.{Result, Ok, Err, ℕ, zero, suc, ◌+◌, List, [], ◌∷◌, length}
+use Rattle.answer.specs.Answer.{on_ok, refuse_of, links}
 use Rattle.answer.specs.declared.Refusal.{Refusal}
 use Rattle.runtime_function.specs.declared.RuntimeFunction.{RuntimeFunction}
 use Rattle.pe_mapping.specs.declared.Sections.{Sections}
@@ -10,11 +11,8 @@ use Rattle.unwind_info.specs.declared.UnwindHeader.{UnwindHeader}
 use Rattle.unwind_info.specs.declared.UnwindInfo.{UnwindInfo}
 use Rattle.unwind_codes.specs.Codes.{on_whole_info, whole_info_at}
 use Rattle.unwind_links.specs.Links.{link_limit, locate_info_of, on_chained}
-use Rattle.unwind_links.specs.Answers.{on_locate_info}
 use Rattle.unwind_links.specs.declared.InfoPlace.{InfoPlace}
 use Rattle.unwind_array.specs.Arrays.{Frame, CodeArray, Arrays}
-use Rattle.unwind_chain.specs.declared.CountAllCodes.{CountAllCodes}
-use Rattle.unwind_chain.specs.declared.CountAllCodes.TheVariants as count
 
 -- an info of a chain: where it is, what it is, and its codes
 pub record Link : Type 0 where
@@ -34,7 +32,7 @@ on_link (refused_link k) refusal on = refusal k
 -- 12.1, 12.10: the info of a record to which `n` links have led already: it is located, and read whole, with its codes
 unfoldable pub link_at : List ℕ → Sections → RuntimeFunction → ℕ → ReadLink
 link_at s sections r n =
-    on_locate_info (locate_info_of s sections r n) refused_link (λ p.
+    on_ok (locate_info_of s sections r n) refused_link (λ p.
     on_whole_info (whole_info_at s p.offset) refused_link (λ i cs. link (record { place = p; info = i; codes = cs })))
 
 -- the found info, and those that it is chained to, in order: there is always one
@@ -104,11 +102,11 @@ codes_of_all [] = 0
 codes_of_all (l ∷ ls) = length l.codes + codes_of_all ls
 
 -- 12.10: the number of links and of codes
-abbrev pub totals_of : ReadChain → CountAllCodes
+abbrev pub totals_of : ReadChain → Result Totals Refusal
 totals_of (chain c) =
-    count.Value (record { links = last_links c.found c.outer; codes = codes_of_all (c.found ∷ c.outer) })
-totals_of (refused_chain k) = count.Refused k
+    Ok (record { links = last_links c.found c.outer; codes = codes_of_all (c.found ∷ c.outer) })
+totals_of (refused_chain k) = Err k
 
 -- 12.10: the number of links and of codes of the chain of a record
-abbrev pub count_all_codes_of : List ℕ → Sections → RuntimeFunction → CountAllCodes
+abbrev pub count_all_codes_of : List ℕ → Sections → RuntimeFunction → Result Totals Refusal
 count_all_codes_of s sections r = totals_of (chain_of s sections r)

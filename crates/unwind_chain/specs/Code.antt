@@ -1,15 +1,13 @@
--- What the private enum of src/ stands for: the contract of a private function cites this map, and no definition does.
+-- What the private type of src/ stands for: the contract of a private function cites this map, and no definition does.
 -- Assumes nothing.
-use Rattle.std.specs.Prelude.{length}
+use Rattle.std.specs.Prelude.{Result, Ok, Err, Some, None, length}
+use Rattle.answer.specs.declared.Refusal.{Refusal}
 use Rattle.unwind_links.specs.Links.{on_chained}
 use Rattle.unwind_chain.specs.Chain.{ReadLink, link, refused_link}
 use Rattle.unwind_chain.specs.declared.Linked.{Linked}
-use Rattle.unwind_chain.specs.declared.Linked.TheVariants as linked
 
--- an info by the record that it is chained to, if it is, the links that led to it, and the number of its codes
-abbrev pub linked_of : ReadLink → Linked
+-- an info by the links that led to it, the number of its codes, and the record that it is chained to, if it is
+abbrev pub linked_of : ReadLink → Result Linked Refusal
 linked_of (link l) =
-    on_chained l.info.follows
-    (linked.Last l.place.links (length l.codes))
-    (λ e. linked.Chained e l.place.links (length l.codes))
-linked_of (refused_link k) = linked.Refused k
+    Ok (record { links = l.place.links; codes = length l.codes; next = on_chained l.info.follows None (λ e. Some e) })
+linked_of (refused_link k) = Err k

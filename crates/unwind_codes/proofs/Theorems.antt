@@ -1,5 +1,7 @@
 -- What is proved of the codes of an unwind info, for every input.
 -- Assumes nothing.
+use Rattle.unwind_codes.specs.declared.CheckedInfo.{CheckedInfo}
+use Rattle.std.specs.Prelude.{Result, Ok, Err}
 use mathlib.Core.Path.{◌≡◌, refl, ap, ◌∙◌}
 use mathlib.Core.List.{List, [], ◌∷◌}
 use mathlib.Core.Bool.{Bool, true, false}
@@ -15,22 +17,14 @@ use Rattle.answer.proofs.Unique.{same}
 use Rattle.unwind_operation.specs.Operation.{slot_count, next_code_of}
 use Rattle.unwind_operation.specs.declared.UnwindCode.{UnwindCode}
 use Rattle.unwind_operation.specs.declared.TakenCode.{TakenCode}
-use Rattle.unwind_operation.specs.declared.NextCode.{NextCode}
-use Rattle.unwind_operation.specs.declared.NextCode.TheVariants as next
 use Rattle.unwind_operation.proofs.Laws.{InRange, code_range}
 use Rattle.unwind_operation.proofs.Theorems.{operation_count}
 use Rattle.unwind_info.specs.Unwind.{read_header_of}
 use Rattle.unwind_info.specs.declared.UnwindHeader.{UnwindHeader}
 use Rattle.unwind_info.specs.declared.UnwindInfo.{UnwindInfo}
-use Rattle.unwind_info.specs.declared.ReadHeader.TheVariants as head
 use Rattle.unwind_info.proofs.Theorems.{follows_count}
-use Rattle.unwind_codes.specs.Codes.{CodesEnd, whole, stopped, on_codes_end, Codes, finished, codes_from, codes_at, slots_of, codes_of, has, whole_info_at, check_info_of}
-use Rattle.unwind_codes.specs.Codes.{here, fewer, refused_before, nth_by, nth_of, read_code_of}
-use Rattle.unwind_codes.specs.Answers.{answer_check_info, count_check_info, answer_read_code, count_read_code}
-use Rattle.unwind_codes.specs.declared.CheckInfo.{CheckInfo}
-use Rattle.unwind_codes.specs.declared.CheckInfo.TheVariants as checked
-use Rattle.unwind_codes.specs.declared.ReadCode.{ReadCode}
-use Rattle.unwind_codes.specs.declared.ReadCode.TheVariants.{Value, Refused}
+use Rattle.unwind_codes.specs.Codes.{CodesEnd, whole, stopped, on_codes_end, Codes, finished, codes_from, codes_at, slots_of, codes_of, has, whole_info_at, check_info_of, here, fewer, refused_before, nth_by, nth_of, read_code_of}
+use Rattle.unwind_codes.specs.Answers.{answer_check_info, count_check_info, answer_read_code, count_read_code, checked_numbers}
 use Rattle.unwind_codes.proofs.Laws.{turn_by, enough, whole_told, code_here, code_past, code_refused}
 
 -- The bound of `codes_from` cuts nothing off: with more than the slots left, the operations are the same.
@@ -39,10 +33,10 @@ unfolding codes_at
 bound_enough s v frame n at h = enough s v frame n (slot_count s - at) at h (omega arith)
 
 module _ (s : List ℕ) (v frame : ℕ) where
-  most_turn : (n : ℕ) (x : NextCode) → ((t : TakenCode) → length (codes_from n s t.next v frame).listed ≤ n)
+  most_turn : (n : ℕ) (x : Result TakenCode Refusal) → ((t : TakenCode) → length (codes_from n s t.next v frame).listed ≤ n)
       → length (turn_by s v frame n x).listed ≤ suc n
-  most_turn n (next.Value t) f = omega (arith, f t)
-  most_turn n (next.Refused k) f = omega arith
+  most_turn n (Ok t) f = omega (arith, f t)
+  most_turn n (Err k) f = omega arith
 
   most_test : (n : ℕ) (test : Bool) (x : Codes) → length x.listed ≤ n → length (pick test finished x).listed ≤ n
   most_test n true x h = omega arith
@@ -78,10 +72,10 @@ AllInRange [] = Unit
 AllInRange (c ∷ cs) = InRange c.operation × AllInRange cs
 
 module _ (s : List ℕ) (v frame : ℕ) where
-  range_turn : (n at : ℕ) (x : NextCode) → x ≡ next_code_of s at v frame
+  range_turn : (n at : ℕ) (x : Result TakenCode Refusal) → x ≡ next_code_of s at v frame
       → ((t : TakenCode) → AllInRange (codes_from n s t.next v frame).listed) → AllInRange (turn_by s v frame n x).listed
-  range_turn n at (next.Value t) e f = (code_range s at v frame e, f t)
-  range_turn n at (next.Refused k) e f = tt
+  range_turn n at (Ok t) e f = (code_range s at v frame e, f t)
+  range_turn n at (Err k) e f = tt
 
   range_test : (test : Bool) (x : Codes) → AllInRange x.listed → AllInRange (pick test finished x).listed
   range_test true x h = tt
@@ -106,7 +100,7 @@ whole_registers s at i cs e =
 -- an operation at an index
 pub record There (s : List ℕ) (at index : ℕ) : Type 0 where
   pub operation : UnwindCode
-  pub is : Value operation ≡ read_code_of s at index
+  pub is : Ok operation ≡ read_code_of s at index
 
 -- one of a list
 record Below (e : CodesEnd) (cs : List UnwindCode) (n : ℕ) : Type 0 where
@@ -134,7 +128,7 @@ code_below s at i cs n e h =
 
 -- .. and at any other index the answer is 10.
 pub code_above : (s : List ℕ) (at : ℕ) (i : UnwindInfo) (cs : List UnwindCode) (n : ℕ) → has i cs ≡ whole_info_at s at → length cs ≤ n
-    → Refused (refuse_of not_found) ≡ read_code_of s at n
+    → Err (refuse_of not_found) ≡ read_code_of s at n
 code_above s at i cs n e h =
     let p = whole_told s at e in
     let g : fewer ≡ nth_of (codes_of s i.header) n = nth_above whole cs n h ∙ ap (λ (ds : Codes). nth_of ds n) p.codes in
@@ -142,23 +136,27 @@ code_above s at i cs n e h =
 
 -- An operation that is refused refuses its own index and every later one, each time for the same reason.
 pub code_after_refused : (s : List ℕ) (at : ℕ) (h : UnwindHeader) (k : Refusal) (n : ℕ) → length s ≤ file_limit
-    → head.Value h ≡ read_header_of s at → (codes_of s h).end ≡ stopped k → length (codes_of s h).listed ≤ n → Refused k ≡ read_code_of s at n
+    → Ok h ≡ read_header_of s at → (codes_of s h).end ≡ stopped k → length (codes_of s h).listed ≤ n → Err k ≡ read_code_of s at n
 code_after_refused s at h k n l e d m =
     let g = nth_above (codes_of s h).end (codes_of s h).listed n m in
     code_refused s at n l e refl g (rw d)
 
 -- Two answers that meet a promise of this crate are equal.
-pub check_info_unique : (s : List ℕ) (at : ℕ) {r q : CheckInfo} → r ≡ check_info_of s at → q ≡ check_info_of s at → r ≡ q
+pub check_info_unique : (s : List ℕ) (at : ℕ) {r q : Result CheckedInfo Refusal} → r ≡ check_info_of s at → q ≡ check_info_of s at → r ≡ q
 check_info_unique s at = same
 
-pub read_code_unique : (s : List ℕ) (at index : ℕ) {r q : ReadCode} → r ≡ read_code_of s at index → q ≡ read_code_of s at index → r ≡ q
+pub read_code_unique : (s : List ℕ) (at index : ℕ) {r q : Result UnwindCode Refusal} → r ≡ read_code_of s at index → q ≡ read_code_of s at index → r ≡ q
 read_code_unique s at index = same
 
 -- Each answer has as many numbers as it says, zeros where it is refused.
-pub check_info_count : (a : CheckInfo) → length (values count_check_info (answer_check_info a)) ≡ count_check_info
-check_info_count (checked.Value c) = omega (arith, follows_count c.info.follows)
-check_info_count (checked.Refused k) = refl
+pub check_info_count : (a : Result CheckedInfo Refusal) → length (values count_check_info (answer_check_info a)) ≡ count_check_info
+check_info_count (Ok c) = omega (arith, follows_count c.info.follows)
+check_info_count (Err k) = refl
 
-pub read_code_count : (a : ReadCode) → length (values count_read_code (answer_read_code a)) ≡ count_read_code
-read_code_count (Value c) = omega (arith, operation_count c.operation)
-read_code_count (Refused k) = refl
+pub read_code_count : (a : Result UnwindCode Refusal) → length (values count_read_code (answer_read_code a)) ≡ count_read_code
+read_code_count (Ok c) = omega (arith, operation_count c.operation)
+read_code_count (Err k) = refl
+
+-- The numbers that it stands for are fixed.
+pub numbers_unique : (a : CheckedInfo) {r q : List ℕ} → r ≡ checked_numbers a → q ≡ checked_numbers a → r ≡ q
+numbers_unique a = same

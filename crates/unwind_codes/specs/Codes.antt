@@ -1,21 +1,16 @@
 -- The codes of an unwind info (Microsoft, "x64 exception handling", struct UNWIND_CODE), as a list of operations; an info with all its codes;
 -- and the code at an index.
 -- Assumes nothing.
-use Rattle.std.specs.Prelude.{ℕ, zero, suc, ◌-◌, ◌*◌, List, [], ◌∷◌, length, take, drop, leb}
-use Rattle.answer.specs.Answer.{refuse_of, not_found}
+use Rattle.unwind_codes.specs.declared.CheckedInfo.{CheckedInfo}
+use Rattle.std.specs.Prelude.{Result, Ok, Err, ℕ, zero, suc, ◌-◌, ◌*◌, List, [], ◌∷◌, length, take, drop, leb}
+use Rattle.answer.specs.Answer.{on_ok, refuse_of, not_found}
 use Rattle.answer.specs.Test.{pick, in_limit}
 use Rattle.answer.specs.declared.Refusal.{Refusal}
 use Rattle.unwind_operation.specs.Operation.{slot_count, next_code_of}
-use Rattle.unwind_operation.specs.Answers.{on_next_code}
 use Rattle.unwind_operation.specs.declared.UnwindCode.{UnwindCode}
 use Rattle.unwind_info.specs.Unwind.{read_header_of, read_follows_of, info_of}
-use Rattle.unwind_info.specs.Answers.{on_read_header, on_read_follows}
 use Rattle.unwind_info.specs.declared.UnwindHeader.{UnwindHeader}
 use Rattle.unwind_info.specs.declared.UnwindInfo.{UnwindInfo}
-use Rattle.unwind_codes.specs.declared.CheckInfo.{CheckInfo}
-use Rattle.unwind_codes.specs.declared.CheckInfo.TheVariants as checked
-use Rattle.unwind_codes.specs.declared.ReadCode.{ReadCode}
-use Rattle.unwind_codes.specs.declared.ReadCode.TheVariants.{Value, Refused}
 
 -- how the array ends: each slot belongs to an operation of the list, or the operation after the last of the list is refused
 pub data CodesEnd : Type 0 where
@@ -45,7 +40,7 @@ unfoldable pub codes_from : ℕ → List ℕ → ℕ → ℕ → ℕ → Codes
 codes_from zero s at v frame = finished
 codes_from (suc n) s at v frame =
     pick (leb (slot_count s) at) finished
-    (on_next_code (next_code_of s at v frame) refused_here (λ t. preceded t.code (codes_from n s t.next v frame)))
+    (on_ok (next_code_of s at v frame) refused_here (λ t. preceded t.code (codes_from n s t.next v frame)))
 
 -- 11.9: all operations from the slot at `at` on; each takes a slot at least, so there are no more than slots
 unfoldable pub codes_at : List ℕ → ℕ → ℕ → ℕ → Codes
@@ -72,16 +67,16 @@ on_whole_info (refused_whole k) refusal on = refusal k
 unfoldable pub whole_info_at : List ℕ → ℕ → WholeInfo
 whole_info_at s at =
     in_limit refused_whole s
-    (on_read_header (read_header_of s at) refused_whole (λ h.
+    (on_ok (read_header_of s at) refused_whole (λ h.
     on_codes_end (codes_of s h).end refused_whole
-    (on_read_follows (read_follows_of s h.follows_at h.flags) refused_whole (λ f. has (info_of h f) (codes_of s h).listed))))
+    (on_ok (read_follows_of s h.follows_at h.flags) refused_whole (λ f. has (info_of h f) (codes_of s h).listed))))
 
 -- the info and the number of its codes
-abbrev pub checked_of : WholeInfo → CheckInfo
-checked_of w = on_whole_info w checked.Refused (λ i cs. checked.Value (record { info = i; codes = length cs }))
+abbrev pub checked_of : WholeInfo → Result CheckedInfo Refusal
+checked_of w = on_whole_info w Err (λ i cs. Ok (record { info = i; codes = length cs }))
 
 -- 11.12: an info with all its codes decoded, and their number
-abbrev pub check_info_of : List ℕ → ℕ → CheckInfo
+abbrev pub check_info_of : List ℕ → ℕ → Result CheckedInfo Refusal
 check_info_of s at = checked_of (whole_info_at s at)
 
 -- the code at an index: there it is, there are fewer, or one at or before the index is refused
@@ -100,14 +95,14 @@ abbrev pub nth_of : Codes → ℕ → Nth
 nth_of cs i = nth_by cs.end cs.listed i
 
 -- 11.13: an index at or after the number of operations is refused with 10, once all else has passed
-abbrev pub on_nth : Nth → (ReadCode → ReadCode) → ReadCode
-on_nth (here c) on = on (Value c)
-on_nth fewer on = on (Refused (refuse_of not_found))
-on_nth (refused_before k) on = Refused k
+abbrev pub on_nth : Nth → (Result UnwindCode Refusal → Result UnwindCode Refusal) → Result UnwindCode Refusal
+on_nth (here c) on = on (Ok c)
+on_nth fewer on = on (Err (refuse_of not_found))
+on_nth (refused_before k) on = Err k
 
 -- 11.13: the operation at an index of the info at `at`: those up to it are decoded, then what follows the codes is read
-unfoldable pub read_code_of : List ℕ → ℕ → ℕ → ReadCode
+unfoldable pub read_code_of : List ℕ → ℕ → ℕ → Result UnwindCode Refusal
 read_code_of s at i =
-    in_limit Refused s
-    (on_read_header (read_header_of s at) Refused (λ h.
-    on_nth (nth_of (codes_of s h) i) (λ answer. on_read_follows (read_follows_of s h.follows_at h.flags) Refused (λ f. answer))))
+    in_limit Err s
+    (on_ok (read_header_of s at) Err (λ h.
+    on_nth (nth_of (codes_of s h) i) (λ answer. on_ok (read_follows_of s h.follows_at h.flags) Err (λ f. answer))))

@@ -2,96 +2,74 @@
 #![tactic(auto)]
 
 ghost use Rattle.std.specs.Prelude.{◌≡◌, ◌+◌, ◌*◌, ◌≤◌, length};
+ghost use Rattle.unwind_codes.specs.Answers.{checked_numbers};
 ghost use Rattle.unwind_codes.specs.Codes.{codes_at, nth_of, codes_of, check_info_of, read_code_of};
 ghost use Rattle.unwind_codes.specs.Code.{count_in, nth_in};
 
-use answer::{Reason, Refusal};
-use unwind_info::{ReadFollows, ReadHeader, UnwindHeader, UnwindInfo};
-use unwind_operation::{NextCode, Register, UnwindCode};
+use answer::{Numbers, Reason, Refusal};
+use unwind_info::{UnwindHeader, UnwindInfo};
+use unwind_operation::{Register, UnwindCode};
 
-#[derive(Clone, Copy)]
+#[derive(Clone, Copy, Debug, PartialEq, Eq)]
 pub struct CheckedInfo {
     pub info: UnwindInfo,
     // How many operations its slots hold.
     pub codes: usize,
 }
 
-#[derive(Clone, Copy)]
-pub enum CheckInfo {
-    Value(CheckedInfo),
-    Refused(Refusal),
-}
+impl Numbers<13> for CheckedInfo {
+    ghost numbers = { checked_numbers };
 
-#[derive(Clone, Copy)]
-pub enum ReadCode {
-    Value(UnwindCode),
-    Refused(Refusal),
-}
-
-#[derive(Clone, Copy)]
-enum CountCodes {
-    Value(usize),
-    Refused(Refusal),
-}
-
-#[derive(Clone, Copy)]
-enum NthCode {
-    Value(UnwindCode),
-    // There are fewer.
-    Past,
-    Refused(Refusal),
+    fn numbers(self) -> [u64; 13] {
+        let n = self.info.numbers();
+        [
+            self.codes as u64,
+            n[0],
+            n[1],
+            n[2],
+            n[3],
+            n[4],
+            n[5],
+            n[6],
+            n[7],
+            n[8],
+            n[9],
+            n[10],
+            n[11],
+        ]
+    }
 }
 
 // The unwind info at an offset of the file, all of whose codes are decoded, and their number.
-pub fn check_info(file: &[u8], at: usize) -> CheckInfo
+pub fn check_info(file: &[u8], at: usize) -> Result<CheckedInfo, Refusal>
     ensures { result ≡ check_info_of file.now at }
 {
     if answer::FILE_LIMIT < file.len() {
-        return CheckInfo::Refused(answer::refuse(Reason::Limit));
+        return Err(Reason::Limit.into());
     }
-    match unwind_info::read_header(file, at) {
-        ReadHeader::Value(h) => match count(file, h) {
-            CountCodes::Value(codes) => match unwind_info::read_follows(
-                file,
-                h.follows_at,
-                h.flags,
-            ) {
-                ReadFollows::Value(follows) => CheckInfo::Value(CheckedInfo {
-                    info: UnwindInfo { header: h, follows },
-                    codes,
-                }),
-                ReadFollows::Refused(k) => CheckInfo::Refused(k),
-            },
-            CountCodes::Refused(k) => CheckInfo::Refused(k),
-        },
-        ReadHeader::Refused(k) => CheckInfo::Refused(k),
-    }
+    let header = unwind_info::read_header(file, at)?;
+    let codes = count(file, header)?;
+    let follows = unwind_info::read_follows(file, header.follows_at, header.flags)?;
+    Ok(CheckedInfo {
+        info: UnwindInfo { header, follows },
+        codes,
+    })
 }
 
 // The operation at an index of the unwind info at an offset of the file. Those after it are not decoded.
-pub fn read_code(file: &[u8], at: usize, index: usize) -> ReadCode
+pub fn read_code(file: &[u8], at: usize, index: usize) -> Result<UnwindCode, Refusal>
     ensures { result ≡ read_code_of file.now at index }
 {
     if answer::FILE_LIMIT < file.len() {
-        return ReadCode::Refused(answer::refuse(Reason::Limit));
+        return Err(Reason::Limit.into());
     }
-    match unwind_info::read_header(file, at) {
-        ReadHeader::Value(h) => match nth(file, h, index) {
-            NthCode::Value(c) => match unwind_info::read_follows(file, h.follows_at, h.flags) {
-                ReadFollows::Value(_) => ReadCode::Value(c),
-                ReadFollows::Refused(k) => ReadCode::Refused(k),
-            },
-            NthCode::Past => match unwind_info::read_follows(file, h.follows_at, h.flags) {
-                ReadFollows::Value(_) => ReadCode::Refused(answer::refuse(Reason::NotFound)),
-                ReadFollows::Refused(k) => ReadCode::Refused(k),
-            },
-            NthCode::Refused(k) => ReadCode::Refused(k),
-        },
-        ReadHeader::Refused(k) => ReadCode::Refused(k),
-    }
+    let header = unwind_info::read_header(file, at)?;
+    let code = nth(file, header, index)?;
+    unwind_info::read_follows(file, header.follows_at, header.flags)?;
+    code.ok_or(Reason::NotFound.into())
 }
 
-fn count(file: &[u8], h: UnwindHeader) -> CountCodes
+fn count(file: &[u8], h: UnwindHeader) -> Result<usize, Refusal>
     requires { h.code_start + 2 * h.count_of_codes ≤ length file.now }
     ensures { result ≡ count_in (codes_of file.now h) }
 {
@@ -100,7 +78,7 @@ fn count(file: &[u8], h: UnwindHeader) -> CountCodes
     count_in(&file[start..end], h.version, h.frame_register)
 }
 
-fn nth(file: &[u8], h: UnwindHeader, index: usize) -> NthCode
+fn nth(file: &[u8], h: UnwindHeader, index: usize) -> Result<Option<UnwindCode>, Refusal>
     requires { h.code_start + 2 * h.count_of_codes ≤ length file.now }
     ensures { nth_in result ≡ nth_of (codes_of file.now h) index }
 {
@@ -109,44 +87,36 @@ fn nth(file: &[u8], h: UnwindHeader, index: usize) -> NthCode
     nth_in(&file[start..end], h.version, h.frame_register, index)
 }
 
-fn count_in(slots: &[u8], version: u8, frame: Register) -> CountCodes
+fn count_in(slots: &[u8], version: u8, frame: Register) -> Result<usize, Refusal>
     ensures { result ≡ count_in (codes_at slots.now 0 version frame.0) }
 {
-    let mut place: usize = 0;
-    let mut codes: usize = 0;
+    let mut place = 0;
+    let mut codes = 0;
     while place < slots.len() / unwind_operation::SLOT {
-        match unwind_operation::next_code(slots, place, version, frame) {
-            NextCode::Value(t) => {
-                place = t.next;
-                codes += 1;
-            }
-            NextCode::Refused(k) => {
-                return CountCodes::Refused(k);
-            }
-        }
+        place = unwind_operation::next_code(slots, place, version, frame)?.next;
+        codes += 1;
     }
-    CountCodes::Value(codes)
+    Ok(codes)
 }
 
-fn nth_in(slots: &[u8], version: u8, frame: Register, index: usize) -> NthCode
+// The operation at an index; none where there are fewer.
+fn nth_in(
+    slots: &[u8],
+    version: u8,
+    frame: Register,
+    index: usize,
+) -> Result<Option<UnwindCode>, Refusal>
     ensures { nth_in result ≡ nth_of (codes_at slots.now 0 version frame.0) index }
 {
-    let mut place: usize = 0;
+    let mut place = 0;
     let mut left = index;
     while place < slots.len() / unwind_operation::SLOT {
-        match unwind_operation::next_code(slots, place, version, frame) {
-            NextCode::Value(t) => {
-                if left == 0 {
-                    let c = t.code;
-                    return NthCode::Value(c);
-                }
-                place = t.next;
-                left -= 1;
-            }
-            NextCode::Refused(k) => {
-                return NthCode::Refused(k);
-            }
+        let taken = unwind_operation::next_code(slots, place, version, frame)?;
+        if left == 0 {
+            return Ok(Some(taken.code));
         }
+        place = taken.next;
+        left -= 1;
     }
-    NthCode::Past
+    Ok(None)
 }

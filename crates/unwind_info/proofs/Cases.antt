@@ -1,5 +1,8 @@
 -- `read_info_of` on small inputs, by computation: the examples of 10.5, 10.14 and 11.16 among them.
 -- Assumes nothing.
+use Rattle.unwind_info.specs.declared.UnwindInfo.{UnwindInfo}
+use Rattle.std.specs.Prelude.{Result, Ok, Err}
+use Rattle.answer.specs.declared.Refusal.{Refusal}
 use mathlib.Core.Path.{◌≡◌, refl}
 use mathlib.Core.List.{List, [], ◌∷◌, ◌++◌}
 use Prim.Native.Nat.{ℕ}
@@ -15,16 +18,14 @@ use Rattle.unwind_info.specs.declared.HandlerKind.{HandlerKind}
 use Rattle.unwind_info.specs.declared.HandlerKind.TheVariants.{Exception, Termination}
 use Rattle.unwind_info.specs.declared.Follows.{Follows}
 use Rattle.unwind_info.specs.declared.Follows.TheVariants.{Nothing, Chained, Handler}
-use Rattle.unwind_info.specs.declared.ReadInfo.{ReadInfo}
-use Rattle.unwind_info.specs.declared.ReadInfo.TheVariants.{Value, Refused}
 
 four_bytes : bytes_in fields ≡ 4
 four_bytes = refl
 
 -- an info at offset 0, by its numbers; what follows is at `next`
-abbrev is : ℕ → ℕ → ℕ → ℕ → ℕ → ℕ → ℕ → Follows → ReadInfo
+abbrev is : ℕ → ℕ → ℕ → ℕ → ℕ → ℕ → ℕ → Follows → Result UnwindInfo Refusal
 is version flags prolog count register offset next follows =
-    Value (record {
+    Ok (record {
       header = record {
         version = version;
         flags = flags;
@@ -71,11 +72,11 @@ unfolding read_info_of must read_header_of rest_at read_by number_at with_slots 
 first_byte_21 = refl
 
 -- refused before the bytes after it are missed
-first_byte_03 : read_info_of (3 ∷ []) 0 ≡ Refused (refuse_of version)
+first_byte_03 : read_info_of (3 ∷ []) 0 ≡ Err (refuse_of version)
 unfolding read_info_of must read_header_of rest_at read_by number_at with_slots read_follows_of handler_at chained_at field_of record_at cut_of beyond_of
 first_byte_03 = refl
 
-version_0 : read_info_of (0 ∷ []) 0 ≡ Refused (refuse_of version)
+version_0 : read_info_of (0 ∷ []) 0 ≡ Err (refuse_of version)
 unfolding read_info_of must read_header_of rest_at read_by number_at with_slots read_follows_of handler_at chained_at field_of record_at cut_of beyond_of
 version_0 = refl
 
@@ -109,7 +110,7 @@ unused_slot_missing : read_info_of (1 ∷ 4 ∷ 1 ∷ 0 ∷ 4 ∷ 66 ∷ []) 0 �
 unfolding read_info_of must read_header_of rest_at read_by number_at with_slots read_follows_of handler_at chained_at field_of record_at cut_of beyond_of
 unused_slot_missing = refl
 
-handler_without_the_unused_slot : read_info_of ((9 ∷ 0 ∷ 1 ∷ 0 ∷ 4 ∷ 66 ∷ []) ++ word) 0 ≡ Refused (refuse_of short)
+handler_without_the_unused_slot : read_info_of ((9 ∷ 0 ∷ 1 ∷ 0 ∷ 4 ∷ 66 ∷ []) ++ word) 0 ≡ Err (refuse_of short)
 unfolding read_info_of must read_header_of rest_at read_by number_at with_slots read_follows_of handler_at chained_at field_of record_at cut_of beyond_of
 handler_without_the_unused_slot = refl
 
@@ -122,27 +123,27 @@ frame_register_lem : read_info_of (1 ∷ 0 ∷ 0 ∷ 37 ∷ []) 0 ≡ is 1 0 0 0
 unfolding read_info_of must read_header_of rest_at read_by number_at with_slots read_follows_of handler_at chained_at field_of record_at cut_of beyond_of
 frame_register_lem = refl
 
-nothing_there : read_info_of ([]) 0 ≡ Refused (refuse_of short)
+nothing_there : read_info_of ([]) 0 ≡ Err (refuse_of short)
 unfolding read_info_of must read_header_of rest_at read_by number_at with_slots read_follows_of handler_at chained_at field_of record_at cut_of beyond_of
 nothing_there = refl
 
-three_bytes : read_info_of (1 ∷ 0 ∷ 0 ∷ []) 0 ≡ Refused (refuse_of short)
+three_bytes : read_info_of (1 ∷ 0 ∷ 0 ∷ []) 0 ≡ Err (refuse_of short)
 unfolding read_info_of must read_header_of rest_at read_by number_at with_slots read_follows_of handler_at chained_at field_of record_at cut_of beyond_of
 three_bytes = refl
 
 -- all the slots are there before one is decoded
-slots_cut : read_info_of (1 ∷ 0 ∷ 2 ∷ 0 ∷ 0 ∷ 15 ∷ []) 0 ≡ Refused (refuse_of short)
+slots_cut : read_info_of (1 ∷ 0 ∷ 2 ∷ 0 ∷ 0 ∷ 15 ∷ []) 0 ≡ Err (refuse_of short)
 unfolding read_info_of must read_header_of rest_at read_by number_at with_slots read_follows_of handler_at chained_at field_of record_at cut_of beyond_of
 slots_cut = refl
 
-chained_cut : read_info_of ((33 ∷ 0 ∷ 0 ∷ 0 ∷ []) ++ word ++ word ++ (1 ∷ 2 ∷ 3 ∷ [])) 0 ≡ Refused (refuse_of short)
+chained_cut : read_info_of ((33 ∷ 0 ∷ 0 ∷ 0 ∷ []) ++ word ++ word ++ (1 ∷ 2 ∷ 3 ∷ [])) 0 ≡ Err (refuse_of short)
 unfolding read_info_of must read_header_of rest_at read_by number_at with_slots read_follows_of handler_at chained_at field_of record_at cut_of beyond_of
 chained_cut = refl
 
-handler_cut : read_info_of (9 ∷ 0 ∷ 0 ∷ 0 ∷ 1 ∷ 2 ∷ 3 ∷ []) 0 ≡ Refused (refuse_of short)
+handler_cut : read_info_of (9 ∷ 0 ∷ 0 ∷ 0 ∷ 1 ∷ 2 ∷ 3 ∷ []) 0 ≡ Err (refuse_of short)
 unfolding read_info_of must read_header_of rest_at read_by number_at with_slots read_follows_of handler_at chained_at field_of record_at cut_of beyond_of
 handler_cut = refl
 
-far_past_the_file : read_info_of (1 ∷ 0 ∷ 0 ∷ 0 ∷ []) 18446744073709551615 ≡ Refused (refuse_of short)
+far_past_the_file : read_info_of (1 ∷ 0 ∷ 0 ∷ 0 ∷ []) 18446744073709551615 ≡ Err (refuse_of short)
 unfolding read_info_of must read_header_of rest_at read_by number_at with_slots read_follows_of handler_at chained_at field_of record_at cut_of beyond_of
 far_past_the_file = refl

@@ -1,7 +1,7 @@
 -- What each answer of this crate stands for, how many numbers that is, and how a definition goes on from it.
 -- Assumes nothing.
-use Rattle.std.specs.Prelude.{List, [], ◌∷◌, ◌++◌, ℕ}
-use Rattle.answer.specs.Answer.{Answer, accepted, refused}
+use Rattle.std.specs.Prelude.{Result, List, [], ◌∷◌, ◌++◌, ℕ}
+use Rattle.answer.specs.Answer.{Answer, answer_of}
 use Rattle.answer.specs.declared.Refusal.{Refusal}
 use Rattle.runtime_function.specs.RuntimeFunction.{numbers_of}
 use Rattle.unwind_info.specs.declared.UnwindHeader.{UnwindHeader}
@@ -10,12 +10,6 @@ use Rattle.unwind_info.specs.declared.HandlerKind.{HandlerKind}
 use Rattle.unwind_info.specs.declared.HandlerKind.TheVariants.{Exception, Termination}
 use Rattle.unwind_info.specs.declared.Follows.{Follows}
 use Rattle.unwind_info.specs.declared.Follows.TheVariants.{Nothing, Chained, Handler}
-use Rattle.unwind_info.specs.declared.ReadHeader.{ReadHeader}
-use Rattle.unwind_info.specs.declared.ReadHeader.TheVariants as head
-use Rattle.unwind_info.specs.declared.ReadFollows.{ReadFollows}
-use Rattle.unwind_info.specs.declared.ReadFollows.TheVariants as followed
-use Rattle.unwind_info.specs.declared.ReadInfo.{ReadInfo}
-use Rattle.unwind_info.specs.declared.ReadInfo.TheVariants.{Value, Refused}
 
 -- 10.13: 2 for an exception handler, 3 for a termination handler
 abbrev pub kind_number : HandlerKind → ℕ
@@ -45,35 +39,20 @@ header_numbers h =
 abbrev pub info_numbers : UnwindInfo → List ℕ
 info_numbers i = header_numbers i.header ++ follows_numbers i.follows
 
-abbrev pub answer_read_header : ReadHeader → Answer
-answer_read_header (head.Value h) = accepted (header_numbers h)
-answer_read_header (head.Refused k) = refused k
+abbrev pub answer_read_header : Result UnwindHeader Refusal → Answer
+answer_read_header = answer_of header_numbers
 
 abbrev pub count_read_header : ℕ
 count_read_header = 8
 
-abbrev pub on_read_header : {A : Type 0} → ReadHeader → (Refusal → A) → (UnwindHeader → A) → A
-on_read_header (head.Value h) refusal on = on h
-on_read_header (head.Refused k) refusal on = refusal k
-
-abbrev pub answer_read_follows : ReadFollows → Answer
-answer_read_follows (followed.Value f) = accepted (follows_numbers f)
-answer_read_follows (followed.Refused k) = refused k
+abbrev pub answer_read_follows : Result Follows Refusal → Answer
+answer_read_follows = answer_of follows_numbers
 
 abbrev pub count_read_follows : ℕ
 count_read_follows = 4
 
-abbrev pub on_read_follows : {A : Type 0} → ReadFollows → (Refusal → A) → (Follows → A) → A
-on_read_follows (followed.Value f) refusal on = on f
-on_read_follows (followed.Refused k) refusal on = refusal k
-
-abbrev pub answer_read_info : ReadInfo → Answer
-answer_read_info (Value i) = accepted (info_numbers i)
-answer_read_info (Refused k) = refused k
+abbrev pub answer_read_info : Result UnwindInfo Refusal → Answer
+answer_read_info = answer_of info_numbers
 
 abbrev pub count_read_info : ℕ
 count_read_info = 12
-
-abbrev pub on_read_info : {A : Type 0} → ReadInfo → (Refusal → A) → (UnwindInfo → A) → A
-on_read_info (Value i) refusal on = on i
-on_read_info (Refused k) refusal on = refusal k

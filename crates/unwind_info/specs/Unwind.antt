@@ -1,27 +1,20 @@
 -- The unwind info (Microsoft, "x64 exception handling", struct UNWIND_INFO): its header, its slots, and what follows them. Its codes are
 -- not decoded here.
 -- Assumes nothing.
-use Rattle.std.specs.Prelude.{ℕ, ◌+◌, ◌-◌, ◌*◌, ◌/◌, ◌%◌, List, [], ◌∷◌, Bool, false, length, leb, eqb}
-use Rattle.answer.specs.Answer.{cut_of, version}
+use Rattle.std.specs.Prelude.{Result, Ok, Err, ℕ, ◌+◌, ◌-◌, ◌*◌, ◌/◌, ◌%◌, List, [], ◌∷◌, Bool, false, length, leb, eqb}
+use Rattle.answer.specs.Answer.{on_ok, cut_of, version}
+use Rattle.answer.specs.declared.Refusal.{Refusal}
 use Rattle.answer.specs.Test.{pick, must, in_limit}
 use Rattle.fields.specs.Field.{read_of as field_of}
 use Rattle.layout.specs.Layout.{Field, field, the, up_to, after, bytes_in, reading}
 use Rattle.runtime_function.specs.RuntimeFunction.{read_of as record_at}
-use Rattle.runtime_function.specs.Answers.{on_read_runtime_function}
 use Rattle.unwind_operation.specs.Operation.{known_version_of, general}
-use Rattle.unwind_info.specs.Answers.{on_read_header, on_read_follows}
 use Rattle.unwind_info.specs.declared.UnwindHeader.{UnwindHeader}
 use Rattle.unwind_info.specs.declared.UnwindInfo.{UnwindInfo}
 use Rattle.unwind_info.specs.declared.HandlerKind.{HandlerKind}
 use Rattle.unwind_info.specs.declared.HandlerKind.TheVariants.{Exception, Termination}
 use Rattle.unwind_info.specs.declared.Follows.{Follows}
 use Rattle.unwind_info.specs.declared.Follows.TheVariants.{Nothing, Chained, Handler}
-use Rattle.unwind_info.specs.declared.ReadHeader.{ReadHeader}
-use Rattle.unwind_info.specs.declared.ReadHeader.TheVariants as head
-use Rattle.unwind_info.specs.declared.ReadFollows.{ReadFollows}
-use Rattle.unwind_info.specs.declared.ReadFollows.TheVariants as followed
-use Rattle.unwind_info.specs.declared.ReadInfo.{ReadInfo}
-use Rattle.unwind_info.specs.declared.ReadInfo.TheVariants.{Value, Refused}
 
 -- 4.17: offset, width, name
 abbrev pub fields : List Field
@@ -66,18 +59,18 @@ abbrev pub codes_end : UnwindHeader → ℕ
 codes_end h = h.code_start + 2 * h.count_of_codes
 
 -- 10.5: all slots are there, else 1
-unfoldable pub with_slots : List ℕ → UnwindHeader → ReadHeader
-with_slots s h = pick (leb (codes_end h) (length s)) (head.Value h) (head.Refused (cut_of (codes_end h)))
+unfoldable pub with_slots : List ℕ → UnwindHeader → Result UnwindHeader Refusal
+with_slots s h = pick (leb (codes_end h) (length s)) (Ok h) (Err (cut_of (codes_end h)))
 
 -- the header after its first byte, `byte`
-unfoldable pub rest_at : List ℕ → ℕ → ℕ → ReadHeader
-rest_at s at byte = reading head.Refused false others s at (λ ns. with_slots s (header_of (at + bytes_in others) (byte ∷ ns)))
+unfoldable pub rest_at : List ℕ → ℕ → ℕ → Result UnwindHeader Refusal
+rest_at s at byte = reading Err false others s at (λ ns. with_slots s (header_of (at + bytes_in others) (byte ∷ ns)))
 
 -- 10.1, 10.5, 10.12, 10.15: the header at `at`; a version other than 1 and 2 is refused with 6 before the next byte is read
-unfoldable pub read_header_of : List ℕ → ℕ → ReadHeader
+unfoldable pub read_header_of : List ℕ → ℕ → Result UnwindHeader Refusal
 read_header_of s at =
-    reading head.Refused false first s at (λ ns.
-    must head.Refused (known_version_of (version_of ns)) version
+    reading Err false first s at (λ ns.
+    must Err (known_version_of (version_of ns)) version
     (rest_at s (at + bytes_in first) (the fields "Version and flags" ns)))
 
 -- 10.8: flag 1
@@ -96,27 +89,27 @@ chain_flag flags = eqb (flags / 4 % 2) 1
 abbrev pub handler_of : List ℕ → ℕ → HandlerKind → ℕ → Follows
 handler_of s at kind address = Handler (record { kind = kind; address = address; start = at + 4; length = length s - (at + 4) })
 
-unfoldable pub handler_at : List ℕ → ℕ → HandlerKind → ReadFollows
-handler_at s at kind = field_of (λ address. followed.Value (handler_of s at kind address)) followed.Refused false 4 s at
+unfoldable pub handler_at : List ℕ → ℕ → HandlerKind → Result Follows Refusal
+handler_at s at kind = field_of (λ address. Ok (handler_of s at kind address)) Err false 4 s at
 
 -- 10.7: the runtime record that an info is chained to
-unfoldable pub chained_at : List ℕ → ℕ → ReadFollows
-chained_at s at = on_read_runtime_function (record_at s at) followed.Refused (λ e. followed.Value (Chained e))
+unfoldable pub chained_at : List ℕ → ℕ → Result Follows Refusal
+chained_at s at = on_ok (record_at s at) Err (λ e. Ok (Chained e))
 
 -- 10.7, 10.8, 10.10, 10.15: what follows the codes, at `at`. With flag 4, flags 1 and 2 are ignored; with flag 1, flag 2 is; without these, nothing is
 -- read there.
-unfoldable pub read_follows_of : List ℕ → ℕ → ℕ → ReadFollows
+unfoldable pub read_follows_of : List ℕ → ℕ → ℕ → Result Follows Refusal
 read_follows_of s at flags =
     pick (chain_flag flags) (chained_at s at)
     (pick (exception_flag flags) (handler_at s at Exception)
-    (pick (termination_flag flags) (handler_at s at Termination) (followed.Value Nothing)))
+    (pick (termination_flag flags) (handler_at s at Termination) (Ok Nothing)))
 
 abbrev pub info_of : UnwindHeader → Follows → UnwindInfo
 info_of h f = record { header = h; follows = f }
 
 -- 10.11: the unwind info at `at`: the file's length, the header with its slots, then what follows them
-unfoldable pub read_info_of : List ℕ → ℕ → ReadInfo
+unfoldable pub read_info_of : List ℕ → ℕ → Result UnwindInfo Refusal
 read_info_of s at =
-    in_limit Refused s
-    (on_read_header (read_header_of s at) Refused (λ h.
-    on_read_follows (read_follows_of s h.follows_at h.flags) Refused (λ f. Value (info_of h f))))
+    in_limit Err s
+    (on_ok (read_header_of s at) Err (λ h.
+    on_ok (read_follows_of s h.follows_at h.flags) Err (λ f. Ok (info_of h f))))

@@ -2,14 +2,15 @@
 #![tactic(auto)]
 
 ghost use Rattle.std.specs.Prelude.{◌≡◌};
-ghost use Rattle.unwind_info.specs.Unwind.{read_header_of, rest_at, handler_at, read_follows_of, read_info_of};
+ghost use Rattle.unwind_info.specs.Answers.{follows_numbers, info_numbers};
+ghost use Rattle.unwind_info.specs.Unwind.{read_header_of, handler_at, read_follows_of, read_info_of};
 
-use answer::{Reason, Refusal};
-use cursor::{Cursor, NextU8, NextU32};
-use runtime_function::{ReadRuntimeFunction, RuntimeFunction};
+use answer::{Numbers, Reason, Refusal};
+use cursor::Cursor;
+use runtime_function::RuntimeFunction;
 use unwind_operation::Register;
 
-#[derive(Clone, Copy)]
+#[derive(Clone, Copy, Debug, PartialEq, Eq)]
 pub struct UnwindHeader {
     pub version: u8,
     // As they are: bits without meaning are kept.
@@ -26,13 +27,13 @@ pub struct UnwindHeader {
     pub follows_at: usize,
 }
 
-#[derive(Clone, Copy)]
+#[derive(Clone, Copy, Debug, PartialEq, Eq)]
 pub enum HandlerKind {
     Exception,
     Termination,
 }
 
-#[derive(Clone, Copy)]
+#[derive(Clone, Copy, Debug, PartialEq, Eq)]
 pub struct UnwindHandler {
     pub kind: HandlerKind,
     pub address: u32,
@@ -42,128 +43,124 @@ pub struct UnwindHandler {
 }
 
 // What follows the codes.
-#[derive(Clone, Copy)]
+#[derive(Clone, Copy, Debug, PartialEq, Eq)]
 pub enum Follows {
     Nothing,
     Chained(RuntimeFunction),
     Handler(UnwindHandler),
 }
 
-#[derive(Clone, Copy)]
+#[derive(Clone, Copy, Debug, PartialEq, Eq)]
 pub struct UnwindInfo {
     pub header: UnwindHeader,
     pub follows: Follows,
 }
 
-#[derive(Clone, Copy)]
-pub enum ReadHeader {
-    Value(UnwindHeader),
-    Refused(Refusal),
+impl Numbers<12> for UnwindInfo {
+    ghost numbers = { info_numbers };
+
+    fn numbers(self) -> [u64; 12] {
+        let h = self.header;
+        let [kind, first, second, third] = follows_values(self.follows);
+        [
+            h.version.into(),
+            h.flags.into(),
+            h.size_of_prolog.into(),
+            h.count_of_codes.into(),
+            h.frame_register.0.into(),
+            h.frame_register_offset.into(),
+            h.code_start as u64,
+            h.follows_at as u64,
+            kind,
+            first,
+            second,
+            third,
+        ]
+    }
 }
 
-#[derive(Clone, Copy)]
-pub enum ReadFollows {
-    Value(Follows),
-    Refused(Refusal),
-}
-
-#[derive(Clone, Copy)]
-pub enum ReadInfo {
-    Value(UnwindInfo),
-    Refused(Refusal),
+fn follows_values(f: Follows) -> [u64; 4]
+    ensures { result ≡ follows_numbers f }
+{
+    match f {
+        Follows::Nothing => [0; 4],
+        Follows::Chained(e) => [1, e.begin.into(), e.end.into(), e.unwind.into()],
+        Follows::Handler(h) => {
+            let kind = match h.kind {
+                HandlerKind::Exception => 2,
+                HandlerKind::Termination => 3,
+            };
+            [kind, h.address.into(), h.start as u64, h.length as u64]
+        }
+    }
 }
 
 // The unwind info at an offset of the file.
-pub fn read_info(file: &[u8], at: usize) -> ReadInfo
+pub fn read_info(file: &[u8], at: usize) -> Result<UnwindInfo, Refusal>
     ensures { result ≡ read_info_of file.now at }
 {
     if answer::FILE_LIMIT < file.len() {
-        return ReadInfo::Refused(answer::refuse(Reason::Limit));
+        return Err(Reason::Limit.into());
     }
-    match read_header(file, at) {
-        ReadHeader::Value(header) => match read_follows(file, header.follows_at, header.flags) {
-            ReadFollows::Value(follows) => ReadInfo::Value(UnwindInfo { header, follows }),
-            ReadFollows::Refused(k) => ReadInfo::Refused(k),
-        },
-        ReadHeader::Refused(k) => ReadInfo::Refused(k),
-    }
+    let header = read_header(file, at)?;
+    let follows = read_follows(file, header.follows_at, header.flags)?;
+    Ok(UnwindInfo { header, follows })
 }
 
 // The header at an offset of the bytes, which have all of its slots.
-pub fn read_header(s: &[u8], at: usize) -> ReadHeader
+pub fn read_header(s: &[u8], at: usize) -> Result<UnwindHeader, Refusal>
     ensures { result ≡ read_header_of s.now at }
 {
-    match Cursor::new(at).next_u8(s) {
-        NextU8::Value(first) => {
-            if unwind_operation::known_version(first.value % 8) {
-                return rest(s, first.next, first.value);
-            }
-            ReadHeader::Refused(answer::refuse(Reason::Version))
-        }
-        NextU8::Refused(k) => ReadHeader::Refused(k),
+    let mut cursor = Cursor::new(at);
+    let first: u8 = cursor.next(s, false)?;
+    let version = first % 8;
+    if !unwind_operation::known_version(version) {
+        return Err(Reason::Version.into());
     }
-}
-
-fn rest(s: &[u8], next: Cursor, first: u8) -> ReadHeader
-    ensures { result ≡ rest_at s.now next.at first }
-{
-    let prolog = match next.next_u8(s) {
-        NextU8::Value(t) => t,
-        NextU8::Refused(k) => return ReadHeader::Refused(k),
-    };
-    let count = match prolog.next.next_u8(s) {
-        NextU8::Value(t) => t,
-        NextU8::Refused(k) => return ReadHeader::Refused(k),
-    };
-    let frame = match count.next.next_u8(s) {
-        NextU8::Value(t) => t,
-        NextU8::Refused(k) => return ReadHeader::Refused(k),
-    };
-    let slots = count.value as usize;
-    if fields::fits(s.len(), frame.next.at, 2 * slots) {
-        return ReadHeader::Value(UnwindHeader {
-            version: first % 8,
-            flags: first / 8,
-            size_of_prolog: prolog.value,
-            count_of_codes: count.value,
-            frame_register: Register(frame.value % 16),
-            frame_register_offset: 16 * (frame.value / 16) as u32,
-            code_start: frame.next.at,
-            follows_at: frame.next.at + 2 * (slots + slots % 2),
-        });
+    let size_of_prolog = cursor.next(s, false)?;
+    let count_of_codes: u8 = cursor.next(s, false)?;
+    let frame: u8 = cursor.next(s, false)?;
+    let slots = count_of_codes as usize;
+    if !fields::fits(s.len(), cursor.at, 2 * slots) {
+        return Err(answer::cut(cursor.at, 2 * slots));
     }
-    ReadHeader::Refused(answer::cut(frame.next.at, 2 * slots))
+    Ok(UnwindHeader {
+        version,
+        flags: first / 8,
+        size_of_prolog,
+        count_of_codes,
+        frame_register: Register(frame % 16),
+        frame_register_offset: 16 * (frame / 16) as u32,
+        code_start: cursor.at,
+        follows_at: cursor.at + 2 * (slots + slots % 2),
+    })
 }
 
 // What follows the codes of an info with these flags: it starts at `at`.
-pub fn read_follows(s: &[u8], at: usize, flags: u8) -> ReadFollows
+pub fn read_follows(s: &[u8], at: usize, flags: u8) -> Result<Follows, Refusal>
     ensures { result ≡ read_follows_of s.now at flags }
 {
     if flags / 4 % 2 == 1 {
-        return match runtime_function::read(s, at) {
-            ReadRuntimeFunction::Value(e) => ReadFollows::Value(Follows::Chained(e)),
-            ReadRuntimeFunction::Refused(k) => ReadFollows::Refused(k),
-        };
+        let record = runtime_function::read(s, at)?;
+        Ok(Follows::Chained(record))
+    } else if flags % 2 == 1 {
+        handler(s, at, HandlerKind::Exception)
+    } else if flags / 2 % 2 == 1 {
+        handler(s, at, HandlerKind::Termination)
+    } else {
+        Ok(Follows::Nothing)
     }
-    if flags % 2 == 1 {
-        return handler(s, at, HandlerKind::Exception);
-    }
-    if flags / 2 % 2 == 1 {
-        return handler(s, at, HandlerKind::Termination);
-    }
-    ReadFollows::Value(Follows::Nothing)
 }
 
-fn handler(s: &[u8], at: usize, kind: HandlerKind) -> ReadFollows
+fn handler(s: &[u8], at: usize, kind: HandlerKind) -> Result<Follows, Refusal>
     ensures { result ≡ handler_at s.now at kind }
 {
-    match Cursor::new(at).next_u32(s, false) {
-        NextU32::Value(address) => ReadFollows::Value(Follows::Handler(UnwindHandler {
-            kind,
-            address: address.value,
-            start: address.next.at,
-            length: s.len() - address.next.at,
-        })),
-        NextU32::Refused(k) => ReadFollows::Refused(k),
-    }
+    let mut cursor = Cursor::new(at);
+    let address = cursor.next(s, false)?;
+    Ok(Follows::Handler(UnwindHandler {
+        kind,
+        address,
+        start: cursor.at,
+        length: s.len() - cursor.at,
+    }))
 }

@@ -1,5 +1,6 @@
 -- The definitions on a small image, by computation: 32 links pass, 33 are 8.
 -- Assumes nothing.
+use Rattle.std.specs.Prelude.{Ok, Err, Some, None}
 use mathlib.Core.Path.{◌≡◌, refl}
 use mathlib.Core.List.{List, [], ◌∷◌, ◌++◌}
 use mathlib.Core.Bool.{false}
@@ -21,9 +22,6 @@ use Rattle.unwind_info.specs.declared.Follows.TheVariants.{Nothing, Chained}
 use Rattle.unwind_links.specs.Links.{record_at_of, place_of, locate_from, locate_info_of, info_at, first_info_of, next_info_of}
 use Rattle.unwind_links.specs.declared.InfoPlace.{InfoPlace}
 use Rattle.unwind_links.specs.declared.ReachedInfo.{ReachedInfo}
-use Rattle.unwind_links.specs.declared.ReachInfo.TheVariants as reach
-use Rattle.unwind_links.specs.declared.LocateInfo.TheVariants as locate
-use Rattle.unwind_links.specs.declared.NextInfo.TheVariants.{Value, End, Refused}
 
 -- a row of a section that maps each address below 4096 to itself
 abbrev row : List ℕ
@@ -95,22 +93,22 @@ chained links unwind =
     }
 
 record Firsts : Type 0 where
-  one_link : first_info_of (image 0) one start ≡ reach.Value (at 52 1)
-  thirty_two_links : first_info_of (image 31) one start ≡ reach.Value (at 424 32)
-  thirty_three_links : first_info_of (image 32) one start ≡ reach.Refused (refuse_of links)
-  record_refers_to_itself : first_info_of (lone 41) one start ≡ reach.Refused (refuse_of links)
+  one_link : first_info_of (image 0) one start ≡ Ok (at 52 1)
+  thirty_two_links : first_info_of (image 31) one start ≡ Ok (at 424 32)
+  thirty_three_links : first_info_of (image 32) one start ≡ Err (refuse_of links)
+  record_refers_to_itself : first_info_of (lone 41) one start ≡ Err (refuse_of links)
   -- the 33rd is 8 before it is mapped
-  thirty_third_not_mapped : first_info_of away one start ≡ reach.Refused (refuse_of links)
+  thirty_third_not_mapped : first_info_of away one start ≡ Err (refuse_of links)
   -- 5, of a record and of an info
-  record_unmapped : first_info_of (lone 4097) one start ≡ reach.Refused (refuse_of no_section)
-  info_unmapped : first_info_of (lone 4096) one start ≡ reach.Refused (refuse_of no_section)
+  record_unmapped : first_info_of (lone 4097) one start ≡ Err (refuse_of no_section)
+  info_unmapped : first_info_of (lone 4096) one start ≡ Err (refuse_of no_section)
   -- mapped, and past the file
-  record_cut : first_info_of (lone 43) one start ≡ reach.Refused (refuse_of short)
-  info_cut : first_info_of (lone 4094) one start ≡ reach.Refused (refuse_of short)
+  record_cut : first_info_of (lone 43) one start ≡ Err (refuse_of short)
+  info_cut : first_info_of (lone 4094) one start ≡ Err (refuse_of short)
   -- where the links that led here are told
-  one_link_left : locate_info_of (image 0) one start 31 ≡ locate.Value (place 52 32)
-  no_link_left : locate_info_of (image 0) one start 32 ≡ locate.Refused (refuse_of links)
-  more_than_the_limit : locate_info_of (image 0) one start 33 ≡ locate.Refused (refuse_of links)
+  one_link_left : locate_info_of (image 0) one start 31 ≡ Ok (place 52 32)
+  no_link_left : locate_info_of (image 0) one start 32 ≡ Err (refuse_of links)
+  more_than_the_limit : locate_info_of (image 0) one start 33 ≡ Err (refuse_of links)
 
 firsts : Firsts
 unfolding info_at locate_info_of locate_from place_of record_at_of must find_offset_of power_below first_section row_at holds readable_size up
@@ -132,14 +130,14 @@ firsts =
     }
 
 record Nexts : Type 0 where
-  not_chained : next_info_of (image 0) one (at 52 1) ≡ End
-  chained_to_an_info : next_info_of (image 0) one (chained 31 52) ≡ Value (at 52 32)
+  not_chained : next_info_of (image 0) one (at 52 1) ≡ Ok None
+  chained_to_an_info : next_info_of (image 0) one (chained 31 52) ≡ Ok (Some (at 52 32))
   -- an odd address after it is a link more
-  chained_to_an_odd_address : next_info_of (image 0) one (chained 30 41) ≡ Value (at 52 32)
-  odd_after_the_last : next_info_of (image 0) one (chained 31 41) ≡ Refused (refuse_of links)
-  chained_after_the_last : next_info_of (image 0) one (chained 32 52) ≡ Refused (refuse_of links)
+  chained_to_an_odd_address : next_info_of (image 0) one (chained 30 41) ≡ Ok (Some (at 52 32))
+  odd_after_the_last : next_info_of (image 0) one (chained 31 41) ≡ Err (refuse_of links)
+  chained_after_the_last : next_info_of (image 0) one (chained 32 52) ≡ Err (refuse_of links)
   -- a number of links that no chain gives
-  more_than_the_limit : next_info_of (image 0) one (chained 0xFFFF_FFFF_FFFF_FFFF 52) ≡ Refused (refuse_of links)
+  more_than_the_limit : next_info_of (image 0) one (chained 0xFFFF_FFFF_FFFF_FFFF 52) ≡ Err (refuse_of links)
 
 nexts : Nexts
 unfolding next_info_of info_at locate_info_of locate_from place_of record_at_of must find_offset_of power_below first_section row_at holds readable_size up

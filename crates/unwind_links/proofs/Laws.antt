@@ -1,62 +1,52 @@
 -- The laws of links, one for each outcome: what the proofs of this crate and of its callers cite.
 -- Assumes nothing.
+use Rattle.std.specs.Prelude.{Result, Ok, Err, Some, None, ℕ}
+use Rattle.answer.specs.Answer.{on_ok, refuse_of, limit, links}
 use mathlib.Core.Path.{◌≡◌, refl, sym, ap, ◌∙◌}
 use mathlib.Core.List.{List}
 use mathlib.Core.Bool.{Bool, true, false}
-use Prim.Native.Nat.{ℕ, zero, suc, ◌+◌, ◌-◌, ◌%◌, ◌≤◌, ◌<◌}
+use Prim.Native.Nat.{ℕ, min, zero, suc, ◌+◌, ◌-◌, ◌%◌, ◌≤◌, ◌<◌}
 use native.Mathlib.Omega.{arith}
 use lib.ListN.{length}
 use borrow.Author.Tests.{le-leb, lt-leb, leb-true, eq-eqb, ne_eqb}
-use Rattle.answer.specs.Answer.{refuse_of, limit, links}
+use mathlib.Core.Logic.{⊎_elim}
+use Rattle.fields.proofs.Laws.{le_or_lt}
 use Rattle.answer.specs.Test.{pick, must, file_limit}
 use Rattle.answer.specs.declared.Reason.{Reason}
 use Rattle.answer.specs.declared.Refusal.{Refusal}
 use Rattle.answer.proofs.Laws.{must_on, must_off}
 use Rattle.runtime_function.specs.RuntimeFunction.{read_of}
-use Rattle.runtime_function.specs.Answers.{on_read_runtime_function}
 use Rattle.runtime_function.specs.declared.RuntimeFunction.{RuntimeFunction}
-use Rattle.runtime_function.specs.declared.ReadRuntimeFunction.{ReadRuntimeFunction}
-use Rattle.runtime_function.specs.declared.ReadRuntimeFunction.TheVariants as function
 use Rattle.pe_mapping.specs.Mapping.{find_offset_of}
-use Rattle.pe_mapping.specs.Answers.{on_find_offset}
 use Rattle.pe_mapping.specs.declared.Sections.{Sections}
-use Rattle.pe_mapping.specs.declared.FindOffset.{FindOffset}
-use Rattle.pe_mapping.specs.declared.FindOffset.TheVariants as mapped
 use Rattle.unwind_info.specs.Unwind.{read_info_of}
-use Rattle.unwind_info.specs.Answers.{on_read_info}
 use Rattle.unwind_info.specs.declared.UnwindInfo.{UnwindInfo}
 use Rattle.unwind_info.specs.declared.UnwindHandler.{UnwindHandler}
+use Rattle.unwind_info.specs.declared.Follows.{Follows}
 use Rattle.unwind_info.specs.declared.Follows.TheVariants.{Nothing, Chained, Handler}
-use Rattle.unwind_info.specs.declared.ReadInfo.{ReadInfo}
-use Rattle.unwind_info.specs.declared.ReadInfo.TheVariants as info
 use Rattle.unwind_links.specs.Links.{link_limit, is_odd, record_at_of, place_of, locate_from, locate_info_of, info_at, chained_info_of, next_info_of}
 use Rattle.unwind_links.specs.declared.InfoPlace.{InfoPlace}
 use Rattle.unwind_links.specs.declared.ReachedInfo.{ReachedInfo}
-use Rattle.unwind_links.specs.declared.LocateInfo.{LocateInfo}
-use Rattle.unwind_links.specs.declared.LocateInfo.TheVariants as locate
-use Rattle.unwind_links.specs.declared.ReachInfo.{ReachInfo}
-use Rattle.unwind_links.specs.declared.ReachInfo.TheVariants as reach
-use Rattle.unwind_links.specs.declared.NextInfo.TheVariants.{Value, End, Refused}
 
 -- the record at an address
-module _ (s : List ℕ) (sections : Sections) (address : ℕ) {m : FindOffset} (e : m ≡ find_offset_of s sections address) where
-  pub record_unmapped : {k : Refusal} → m ≡ mapped.Refused k → function.Refused k ≡ record_at_of s sections address
+module _ (s : List ℕ) (sections : Sections) (address : ℕ) {m : Result ℕ Refusal} (e : m ≡ find_offset_of s sections address) where
+  pub record_unmapped : {k : Refusal} → m ≡ Err k → Err k ≡ record_at_of s sections address
   unfolding record_at_of
   record_unmapped f = rw (← e, f)
 
-  pub record_read : {o : ℕ} {x : ReadRuntimeFunction} → m ≡ mapped.Value o → x ≡ read_of s o → x ≡ record_at_of s sections address
+  pub record_read : {o : ℕ} {x : Result RuntimeFunction Refusal} → m ≡ Ok o → x ≡ read_of s o → x ≡ record_at_of s sections address
   unfolding record_at_of
   record_read f d = rw (← e, f) d
 
 -- where the info is that a record names itself
-module _ (s : List ℕ) (sections : Sections) (r : RuntimeFunction) (n : ℕ) {m : FindOffset}
+module _ (s : List ℕ) (sections : Sections) (r : RuntimeFunction) (n : ℕ) {m : Result ℕ Refusal}
     (e : m ≡ find_offset_of s sections r.unwind) where
-  pub place_unmapped : {k : Refusal} → m ≡ mapped.Refused k → locate.Refused k ≡ place_of s sections r n
+  pub place_unmapped : {k : Refusal} → m ≡ Err k → Err k ≡ place_of s sections r n
   unfolding place_of
   place_unmapped f = rw (← e, f)
 
-  pub place_there : {o : ℕ} → m ≡ mapped.Value o
-      → locate.Value (record { begin = r.begin; offset = o; links = n }) ≡ place_of s sections r n
+  pub place_there : {o : ℕ} → m ≡ Ok o
+      → Ok (record { begin = r.begin; offset = o; links = n }) ≡ place_of s sections r n
   unfolding place_of
   place_there f = rw (← e, f)
 
@@ -67,7 +57,7 @@ even_of s sections zero r e = rw (ne_eqb (r.unwind % 2) 1 e)
 even_of s sections (suc left) r e = rw (ne_eqb (r.unwind % 2) 1 e)
 
 odd_of : (s : List ℕ) (sections : Sections) (left : ℕ) (r : RuntimeFunction) → r.unwind % 2 ≡ 1 → (left ≡ 0 → ⊥)
-    → on_read_runtime_function (record_at_of s sections (r.unwind - 1)) locate.Refused (λ e. locate_from (left - 1) s sections e)
+    → on_ok (record_at_of s sections (r.unwind - 1)) Err (λ e. locate_from (left - 1) s sections e)
     ≡ locate_from left s sections r
 unfolding locate_from
 odd_of s sections zero r o p = absurd (p refl)
@@ -77,40 +67,40 @@ odd_of s sections (suc left) r o p =
 
 -- following odd addresses, `left` links at most
 module _ (s : List ℕ) (sections : Sections) (left : ℕ) (r : RuntimeFunction) where
-  pub locate_even : {x : LocateInfo} → (r.unwind % 2 ≡ 1 → ⊥) → x ≡ place_of s sections r (link_limit - left)
+  pub locate_even : {x : Result InfoPlace Refusal} → (r.unwind % 2 ≡ 1 → ⊥) → x ≡ place_of s sections r (link_limit - left)
       → x ≡ locate_from left s sections r
   locate_even e d = d ∙ even_of s sections left r e
 
-  pub locate_none : {q : Refusal} → r.unwind % 2 ≡ 1 → left ≡ 0 → q ≡ refuse_of links → locate.Refused q ≡ locate_from left s sections r
+  pub locate_none : {q : Refusal} → r.unwind % 2 ≡ 1 → left ≡ 0 → q ≡ refuse_of links → Err q ≡ locate_from left s sections r
   unfolding locate_from
   locate_none o z d = rw (z, eq-eqb (r.unwind % 2) 1 o, d)
 
-  module _ (o : r.unwind % 2 ≡ 1) (p : left ≡ 0 → ⊥) {q : ReadRuntimeFunction} (e : q ≡ record_at_of s sections (r.unwind - 1)) where
-    pub locate_refused : {k : Refusal} → q ≡ function.Refused k → locate.Refused k ≡ locate_from left s sections r
+  module _ (o : r.unwind % 2 ≡ 1) (p : left ≡ 0 → ⊥) {q : Result RuntimeFunction Refusal} (e : q ≡ record_at_of s sections (r.unwind - 1)) where
+    pub locate_refused : {k : Refusal} → q ≡ Err k → Err k ≡ locate_from left s sections r
     locate_refused f = rw (← odd_of s sections left r o p, ← e, f)
 
-    pub locate_on : {n : RuntimeFunction} → q ≡ function.Value n → locate_from (left - 1) s sections n ≡ locate_from left s sections r
+    pub locate_on : {n : RuntimeFunction} → q ≡ Ok n → locate_from (left - 1) s sections n ≡ locate_from left s sections r
     locate_on f = rw (← odd_of s sections left r o p, ← e, f)
 
 -- where the info of a record is, to which `n` links have led
 module _ (s : List ℕ) (sections : Sections) (r : RuntimeFunction) (n : ℕ) where
-  pub located_long : {q : Refusal} → file_limit < length s → q ≡ refuse_of limit → locate.Refused q ≡ locate_info_of s sections r n
+  pub located_long : {q : Refusal} → file_limit < length s → q ≡ refuse_of limit → Err q ≡ locate_info_of s sections r n
   unfolding locate_info_of
-  located_long l d = must_off locate.Refused _ _ _ (lt-leb _ _ l) d
+  located_long l d = must_off Err _ _ _ (lt-leb _ _ l) d
 
   module _ (l : length s ≤ file_limit) where
-    pub located_over : {q : Refusal} → link_limit < n → q ≡ refuse_of links → locate.Refused q ≡ locate_info_of s sections r n
+    pub located_over : {q : Refusal} → link_limit < n → q ≡ refuse_of links → Err q ≡ locate_info_of s sections r n
     unfolding locate_info_of
-    located_over h d = must_on locate.Refused _ _ _ (le-leb _ _ l) (must_off locate.Refused _ _ _ (lt-leb _ _ h) d)
+    located_over h d = must_on Err _ _ _ (le-leb _ _ l) (must_off Err _ _ _ (lt-leb _ _ h) d)
 
-    pub located_from : {x : LocateInfo} → n ≤ link_limit → x ≡ locate_from (link_limit - n) s sections r → x ≡ locate_info_of s sections r n
+    pub located_from : {x : Result InfoPlace Refusal} → n ≤ link_limit → x ≡ locate_from (link_limit - n) s sections r → x ≡ locate_info_of s sections r n
     unfolding locate_info_of
-    located_from h d = must_on locate.Refused _ _ _ (le-leb _ _ l) (must_on locate.Refused _ _ _ (le-leb _ _ h) d)
+    located_from h d = must_on Err _ _ _ (le-leb _ _ l) (must_on Err _ _ _ (le-leb _ _ h) d)
 
 -- an odd address is a link like another: where the info is, to which `n` links have led, and one more by the address
 pub located_odd : (s : List ℕ) (sections : Sections) (r : RuntimeFunction) (n : ℕ) → length s ≤ file_limit → n < link_limit
     → r.unwind % 2 ≡ 1
-    → {m : RuntimeFunction} → function.Value m ≡ record_at_of s sections (r.unwind - 1)
+    → {m : RuntimeFunction} → Ok m ≡ record_at_of s sections (r.unwind - 1)
     → locate_info_of s sections m (n + 1) ≡ locate_info_of s sections r n
 located_odd s sections r n l h o {m} e =
     let z : link_limit - (n + 1) ≡ link_limit - n - 1 = omega arith in
@@ -119,10 +109,10 @@ located_odd s sections r n l h o {m} e =
     ∙ ap (λ (k : ℕ). locate_from k s sections m) z
     ∙ located_from s sections r n l (omega arith) (locate_on s sections (link_limit - n) r o p e refl)
 
-same_place : {p q : InfoPlace} → locate.Value p ≡ locate.Value q → p ≡ q
+same_place : {p q : InfoPlace} → ◌≡◌ {A = Result InfoPlace Refusal} (Ok p) (Ok q) → p ≡ q
 same_place e = cc
 
-no_place : {p : InfoPlace} {k : Refusal} → locate.Value p ≡ locate.Refused k → ⊥
+no_place : {p : InfoPlace} {k : Refusal} → ◌≡◌ {A = Result InfoPlace Refusal} (Ok p) (Err k) → ⊥
 no_place e = let z : ◌≡◌ {A = ℕ} 0 1 = cc in omega arith
 
 -- a place to which `n` links have led or more, and 32 at most
@@ -130,36 +120,36 @@ pub record Within (n : ℕ) (p : InfoPlace) : Type 0 where
   pub least : n ≤ p.links
   pub most : p.links ≤ link_limit
 
-place_by : (m : FindOffset) (begin n : ℕ) → n ≤ link_limit → {p : InfoPlace}
-    → locate.Value p ≡ on_find_offset m locate.Refused (λ o. locate.Value (record { begin = begin; offset = o; links = n })) → Within n p
-place_by (mapped.Value o) begin n h e =
+place_by : (m : Result ℕ Refusal) (begin n : ℕ) → n ≤ link_limit → {p : InfoPlace}
+    → Ok p ≡ on_ok m Err (λ o. Ok (record { begin = begin; offset = o; links = n })) → Within n p
+place_by (Ok o) begin n h e =
     let f = ap (λ (q : InfoPlace). q.links) (same_place e) in
     record { least = omega arith; most = omega arith }
-place_by (mapped.Refused k) begin n h e = absurd (no_place e)
+place_by (Err k) begin n h e = absurd (no_place e)
 
 place_within : (s : List ℕ) (sections : Sections) (r : RuntimeFunction) (n : ℕ) → n ≤ link_limit → {p : InfoPlace}
-    → locate.Value p ≡ place_of s sections r n → Within n p
+    → Ok p ≡ place_of s sections r n → Within n p
 unfolding place_of
 place_within s sections r n h e = place_by (find_offset_of s sections r.unwind) r.begin n h e
 
 module _ {p : InfoPlace} where
-  by_none : (test : Bool) (k : Refusal) (y : LocateInfo) → locate.Value p ≡ pick test (locate.Refused k) y → locate.Value p ≡ y
+  by_none : (test : Bool) (k : Refusal) (y : Result InfoPlace Refusal) → Ok p ≡ pick test (Err k) y → Ok p ≡ y
   by_none true k y e = absurd (no_place e)
   by_none false k y e = e
 
-  by_record : (q : ReadRuntimeFunction) (on : RuntimeFunction → LocateInfo) {n : ℕ}
-      → ((e : RuntimeFunction) → locate.Value p ≡ on e → Within (n + 1) p)
-      → locate.Value p ≡ on_read_runtime_function q locate.Refused on → Within n p
-  by_record (function.Value m) on f e = let w = f m e in record { least = omega (arith, w.least); most = w.most }
-  by_record (function.Refused k) on f e = absurd (no_place e)
+  by_record : (q : Result RuntimeFunction Refusal) (on : RuntimeFunction → Result InfoPlace Refusal) {n : ℕ}
+      → ((e : RuntimeFunction) → Ok p ≡ on e → Within (n + 1) p)
+      → Ok p ≡ on_ok q Err on → Within n p
+  by_record (Ok m) on f e = let w = f m e in record { least = omega (arith, w.least); most = w.most }
+  by_record (Err k) on f e = absurd (no_place e)
 
-  by_test : (test : Bool) (x y : LocateInfo) {n : ℕ} → (locate.Value p ≡ x → Within n p) → (locate.Value p ≡ y → Within n p)
-      → locate.Value p ≡ pick test x y → Within n p
+  by_test : (test : Bool) (x y : Result InfoPlace Refusal) {n : ℕ} → (Ok p ≡ x → Within n p) → (Ok p ≡ y → Within n p)
+      → Ok p ≡ pick test x y → Within n p
   by_test true x y f g e = f e
   by_test false x y f g e = g e
 
   from_within : (s : List ℕ) (sections : Sections) (left : ℕ) (r : RuntimeFunction) → left ≤ link_limit
-      → locate.Value p ≡ locate_from left s sections r → Within (link_limit - left) p
+      → Ok p ≡ locate_from left s sections r → Within (link_limit - left) p
   unfolding locate_from
   from_within s sections zero r h e = place_within s sections r link_limit (omega arith) (by_none (is_odd r) _ _ e)
   from_within s sections (suc left) r h e =
@@ -170,15 +160,15 @@ module _ {p : InfoPlace} where
       (place_within s sections r (link_limit - suc left) (omega arith))
       e
 
-  by_must : (test : Bool) (why : Reason) (x : LocateInfo) → locate.Value p ≡ must locate.Refused test why x
-      → (test ≡ true) × (locate.Value p ≡ x)
+  by_must : (test : Bool) (why : Reason) (x : Result InfoPlace Refusal) → Ok p ≡ must Err test why x
+      → (test ≡ true) × (Ok p ≡ x)
   unfolding must
   by_must true why x e = (refl, e)
   by_must false why x e = absurd (no_place e)
 
 -- where an info is located, the file is not too long, and the links that led there are those before it or more, and 32 at most
 pub located_told : (s : List ℕ) (sections : Sections) (r : RuntimeFunction) (n : ℕ) {p : InfoPlace}
-    → locate.Value p ≡ locate_info_of s sections r n → (length s ≤ file_limit) × Within n p
+    → Ok p ≡ locate_info_of s sections r n → (length s ≤ file_limit) × Within n p
 unfolding locate_info_of
 located_told s sections r n {p} e =
     let a = by_must _ _ _ e in
@@ -188,71 +178,93 @@ located_told s sections r n {p} e =
     (leb-true (length s) file_limit a.0, rw z at (from_within s sections (link_limit - n) r (omega arith) b.1))
 
 -- the info at a place
-module _ (s : List ℕ) {m : LocateInfo} where
-  pub info_unlocated : {k : Refusal} → m ≡ locate.Refused k → reach.Refused k ≡ info_at s m
+module _ (s : List ℕ) {m : Result InfoPlace Refusal} where
+  pub info_unlocated : {k : Refusal} → m ≡ Err k → Err k ≡ info_at s m
   unfolding info_at
   info_unlocated f = rw f
 
-  module _ {p : InfoPlace} (f : m ≡ locate.Value p) {x : ReadInfo} (e : x ≡ read_info_of s p.offset) where
-    pub info_refused : {k : Refusal} → x ≡ info.Refused k → reach.Refused k ≡ info_at s m
+  module _ {p : InfoPlace} (f : m ≡ Ok p) {x : Result UnwindInfo Refusal} (e : x ≡ read_info_of s p.offset) where
+    pub info_refused : {k : Refusal} → x ≡ Err k → Err k ≡ info_at s m
     unfolding info_at
     info_refused g = rw (f, ← e, g)
 
-    pub info_there : {i : UnwindInfo} → x ≡ info.Value i → reach.Value (record { place = p; info = i }) ≡ info_at s m
+    pub info_there : {i : UnwindInfo} → x ≡ Ok i → Ok (record { place = p; info = i }) ≡ info_at s m
     unfolding info_at
     info_there g = rw (f, ← e, g)
 
-same_reached : {y x : ReachedInfo} → reach.Value y ≡ reach.Value x → y ≡ x
+same_reached : {y x : ReachedInfo} → ◌≡◌ {A = Result ReachedInfo Refusal} (Ok y) (Ok x) → y ≡ x
 same_reached e = cc
 
-never_reached : {y : ReachedInfo} {k : Refusal} → reach.Value y ≡ reach.Refused k → ⊥
+never_reached : {y : ReachedInfo} {k : Refusal} → ◌≡◌ {A = Result ReachedInfo Refusal} (Ok y) (Err k) → ⊥
 never_reached e = let z : ◌≡◌ {A = ℕ} 0 1 = cc in omega arith
 
 -- where an info was reached, its place was located, and it is the one there
-pub record Reached (s : List ℕ) (m : LocateInfo) (y : ReachedInfo) : Type 0 where
-  pub place : locate.Value y.place ≡ m
-  pub read : info.Value y.info ≡ read_info_of s y.place.offset
+pub record Reached (s : List ℕ) (m : Result InfoPlace Refusal) (y : ReachedInfo) : Type 0 where
+  pub place : Ok y.place ≡ m
+  pub read : Ok y.info ≡ read_info_of s y.place.offset
 
-told_read : (s : List ℕ) (p : InfoPlace) (x : ReadInfo) → x ≡ read_info_of s p.offset → {y : ReachedInfo}
-    → reach.Value y ≡ on_read_info x reach.Refused (λ i. reach.Value (record { place = p; info = i })) → Reached s (locate.Value p) y
-told_read s p (info.Value i) d e = rw (same_reached e) (record { place = refl; read = d })
-told_read s p (info.Refused k) d e = absurd (never_reached e)
+told_read : (s : List ℕ) (p : InfoPlace) (x : Result UnwindInfo Refusal) → x ≡ read_info_of s p.offset → {y : ReachedInfo}
+    → Ok y ≡ on_ok x Err (λ i. Ok (record { place = p; info = i })) → Reached s (Ok p) y
+told_read s p (Ok i) d e = rw (same_reached e) (record { place = refl; read = d })
+told_read s p (Err k) d e = absurd (never_reached e)
 
-pub reached_told : (s : List ℕ) (m : LocateInfo) {y : ReachedInfo} → reach.Value y ≡ info_at s m → Reached s m y
+pub reached_told : (s : List ℕ) (m : Result InfoPlace Refusal) {y : ReachedInfo} → Ok y ≡ info_at s m → Reached s m y
 unfolding info_at
-reached_told s (locate.Value p) e = told_read s p (read_info_of s p.offset) refl e
-reached_told s (locate.Refused k) e = absurd (never_reached e)
+reached_told s (Ok p) e = told_read s p (read_info_of s p.offset) refl e
+reached_told s (Err k) e = absurd (never_reached e)
 
--- the info of the record that an info is chained to
+-- the info of the record that an info is chained to; more links than the limit are all alike
 module _ (s : List ℕ) (sections : Sections) (r : RuntimeFunction) (n : ℕ) where
-  pub chained_long : {q : Refusal} → file_limit < length s → q ≡ refuse_of limit → reach.Refused q ≡ chained_info_of s sections r n
-  chained_long l d = info_unlocated s (sym (located_long s sections r (n + 1) l d))
-
   pub chained_over : {q : Refusal} → length s ≤ file_limit → link_limit ≤ n → q ≡ refuse_of links
-      → reach.Refused q ≡ chained_info_of s sections r n
+      → Err q ≡ chained_info_of s sections r n
   chained_over l h d = info_unlocated s (sym (located_over s sections r (n + 1) l (omega arith) d))
+
+  both_over : (m : ℕ) → link_limit < m → link_limit < n + 1 → locate_info_of s sections r m ≡ locate_info_of s sections r (n + 1)
+  both_over m h k =
+      ⊎_elim
+      (λ (l : length s ≤ file_limit). sym (located_over s sections r m l h refl) ∙ located_over s sections r (n + 1) l k refl)
+      (λ (l : file_limit < length s). sym (located_long s sections r m l refl) ∙ located_long s sections r (n + 1) l refl)
+      (le_or_lt (length s) file_limit)
+
+  -- a link more, or more links than the limit where one more would not fit
+  pub one_more : {m : ℕ} {x : Result InfoPlace Refusal} → m ≡ min (n + 1) 0xFFFF_FFFF_FFFF_FFFF → x ≡ locate_info_of s sections r m
+      → locate_info_of s sections r (n + 1) ≡ x
+  one_more {m} h e =
+      ⊎_elim
+      (λ (k : n + 1 ≤ 0xFFFF_FFFF_FFFF_FFFF).
+      let q : m ≡ n + 1 = omega arith in sym (e ∙ ap (locate_info_of s sections r) q))
+      (λ (k : 0xFFFF_FFFF_FFFF_FFFF < n + 1). sym (e ∙ both_over m (omega arith) (omega arith)))
+      (le_or_lt (n + 1) 0xFFFF_FFFF_FFFF_FFFF)
 
 -- the next info
 module _ (s : List ℕ) (sections : Sections) (here : ReachedInfo) where
-  pub next_long : {q : Refusal} → file_limit < length s → q ≡ refuse_of limit → Refused q ≡ next_info_of s sections here
+  pub next_long : {q : Refusal} → file_limit < length s → q ≡ refuse_of limit → Err q ≡ next_info_of s sections here
   unfolding next_info_of
-  next_long l d = must_off Refused _ _ _ (lt-leb _ _ l) d
+  next_long l d = must_off Err _ _ _ (lt-leb _ _ l) d
 
   module _ (l : length s ≤ file_limit) where
-    pub next_nothing : here.info.follows ≡ Nothing → End ≡ next_info_of s sections here
+    pub next_nothing : here.info.follows ≡ Nothing → Ok None ≡ next_info_of s sections here
     unfolding next_info_of
-    next_nothing e = must_on Refused _ _ _ (le-leb _ _ l) (rw e)
+    next_nothing e = must_on Err _ _ _ (le-leb _ _ l) (rw e)
 
-    pub next_handler : {h : UnwindHandler} → here.info.follows ≡ Handler h → End ≡ next_info_of s sections here
+    pub next_handler : {h : UnwindHandler} → here.info.follows ≡ Handler h → Ok None ≡ next_info_of s sections here
     unfolding next_info_of
-    next_handler e = must_on Refused _ _ _ (le-leb _ _ l) (rw e)
+    next_handler e = must_on Err _ _ _ (le-leb _ _ l) (rw e)
 
-    module _ {r : RuntimeFunction} (e : here.info.follows ≡ Chained r) {x : ReachInfo}
+    next_by : (f : Follows) → here.info.follows ≡ f → ((r : RuntimeFunction) → f ≡ Chained r → ⊥) → Ok None ≡ next_info_of s sections here
+    next_by Nothing e n = next_nothing e
+    next_by (Chained r) e n = absurd (n r refl)
+    next_by (Handler h) e n = next_handler e
+
+    pub next_none : ((r : RuntimeFunction) → here.info.follows ≡ Chained r → ⊥) → Ok None ≡ next_info_of s sections here
+    next_none n = next_by here.info.follows refl n
+
+    module _ {r : RuntimeFunction} (e : here.info.follows ≡ Chained r) {x : Result ReachedInfo Refusal}
         (f : x ≡ chained_info_of s sections r here.place.links) where
-      pub next_info : {there : ReachedInfo} → x ≡ reach.Value there → Value there ≡ next_info_of s sections here
+      pub next_info : {there : ReachedInfo} → x ≡ Ok there → Ok (Some there) ≡ next_info_of s sections here
       unfolding next_info_of
-      next_info d = must_on Refused _ _ _ (le-leb _ _ l) (rw (e, ← f, d))
+      next_info d = must_on Err _ _ _ (le-leb _ _ l) (rw (e, ← f, d))
 
-      pub next_refused : {k : Refusal} → x ≡ reach.Refused k → Refused k ≡ next_info_of s sections here
+      pub next_refused : {k : Refusal} → x ≡ Err k → Err k ≡ next_info_of s sections here
       unfolding next_info_of
-      next_refused d = must_on Refused _ _ _ (le-leb _ _ l) (rw (e, ← f, d))
+      next_refused d = must_on Err _ _ _ (le-leb _ _ l) (rw (e, ← f, d))

@@ -1,5 +1,6 @@
 -- `next_code_of` on small lists of slots, by computation: the examples of 11.16, and each row of the table of 11.2.
 -- Assumes nothing.
+use Rattle.std.specs.Prelude.{Err}
 use mathlib.Core.Path.{◌≡◌, refl}
 use mathlib.Core.List.{[], ◌∷◌}
 use mathlib.Core.Bool.{true, false}
@@ -10,7 +11,6 @@ use Rattle.layout.specs.Layout.{numbers_at}
 use Rattle.unwind_operation.specs.Operation.{general, xmm, form_of, in_slots, taken, in_two, in_three, next_code_of}
 use Rattle.unwind_operation.specs.declared.StackFrameOffset.TheVariants.{RSP, FP}
 use Rattle.unwind_operation.specs.declared.UnwindOperation.TheVariants.{PushNonVolatile, Alloc, SetFPRegister, SaveNonVolatile, SaveXMM, Epilog, SaveXMM128, PushMachineFrame, Noop}
-use Rattle.unwind_operation.specs.declared.NextCode.TheVariants.{Refused}
 
 -- `01 04 01 00 04 42 00 00`
 alloc_40 : next_code_of (4 ∷ 66 ∷ []) 0 1 0 ≡ taken 4 (Alloc 40) 1
@@ -23,12 +23,12 @@ unfolding next_code_of form_of in_slots in_two in_three must numbers_at number_a
 alloc_48 = refl
 
 -- with a count of 1
-alloc_past_the_count : next_code_of (4 ∷ 1 ∷ []) 0 1 0 ≡ Refused (refuse_of short)
+alloc_past_the_count : next_code_of (4 ∷ 1 ∷ []) 0 1 0 ≡ Err (refuse_of short)
 unfolding next_code_of form_of in_slots in_two in_three must numbers_at number_at beyond_of
 alloc_past_the_count = refl
 
 -- with `21` in byte 5
-alloc_info_2 : next_code_of (4 ∷ 33 ∷ 6 ∷ 0 ∷ []) 0 1 0 ≡ Refused (refuse_of operation)
+alloc_info_2 : next_code_of (4 ∷ 33 ∷ 6 ∷ 0 ∷ []) 0 1 0 ≡ Err (refuse_of operation)
 unfolding next_code_of form_of in_slots in_two in_three must numbers_at number_at beyond_of
 alloc_info_2 = refl
 
@@ -77,7 +77,7 @@ spare : next_code_of (9 ∷ 103 ∷ 1 ∷ 2 ∷ 3 ∷ 4 ∷ []) 0 2 0 ≡ taken 
 unfolding next_code_of form_of in_slots in_two in_three must numbers_at number_at beyond_of
 spare = refl
 
-spare_past_the_count : next_code_of (9 ∷ 103 ∷ 1 ∷ 2 ∷ []) 0 2 0 ≡ Refused (refuse_of short)
+spare_past_the_count : next_code_of (9 ∷ 103 ∷ 1 ∷ 2 ∷ []) 0 2 0 ≡ Err (refuse_of short)
 unfolding next_code_of form_of in_slots in_two in_three must numbers_at number_at beyond_of
 spare_past_the_count = refl
 
@@ -97,33 +97,33 @@ machine_frame_with_code : next_code_of (0 ∷ 26 ∷ []) 0 1 0 ≡ taken 0 (Push
 unfolding next_code_of form_of in_slots in_two in_three must numbers_at number_at beyond_of
 machine_frame_with_code = refl
 
-machine_frame_info_2 : next_code_of (0 ∷ 42 ∷ []) 0 1 0 ≡ Refused (refuse_of operation)
+machine_frame_info_2 : next_code_of (0 ∷ 42 ∷ []) 0 1 0 ≡ Err (refuse_of operation)
 unfolding next_code_of form_of in_slots in_two in_three must numbers_at number_at beyond_of
 machine_frame_info_2 = refl
 
 -- 11.3
-op_11 : next_code_of (0 ∷ 11 ∷ []) 0 1 0 ≡ Refused (refuse_of operation)
+op_11 : next_code_of (0 ∷ 11 ∷ []) 0 1 0 ≡ Err (refuse_of operation)
 unfolding next_code_of form_of in_slots in_two in_three must numbers_at number_at beyond_of
 op_11 = refl
 
-op_15 : next_code_of (0 ∷ 15 ∷ []) 0 2 0 ≡ Refused (refuse_of operation)
+op_15 : next_code_of (0 ∷ 15 ∷ []) 0 2 0 ≡ Err (refuse_of operation)
 unfolding next_code_of form_of in_slots in_two in_three must numbers_at number_at beyond_of
 op_15 = refl
 
-no_slot : next_code_of ([]) 0 1 0 ≡ Refused (refuse_of short)
+no_slot : next_code_of ([]) 0 1 0 ≡ Err (refuse_of short)
 unfolding next_code_of form_of in_slots in_two in_three must numbers_at number_at beyond_of
 no_slot = refl
 
 -- a byte is no slot
-half_a_slot : next_code_of (4 ∷ []) 0 1 0 ≡ Refused (refuse_of short)
+half_a_slot : next_code_of (4 ∷ []) 0 1 0 ≡ Err (refuse_of short)
 unfolding next_code_of form_of in_slots in_two in_three must numbers_at number_at beyond_of
 half_a_slot = refl
 
-far_past_the_slots : next_code_of (4 ∷ 66 ∷ []) 18446744073709551615 1 0 ≡ Refused (refuse_of short)
+far_past_the_slots : next_code_of (4 ∷ 66 ∷ []) 18446744073709551615 1 0 ≡ Err (refuse_of short)
 unfolding next_code_of form_of in_slots in_two in_three must numbers_at number_at beyond_of
 far_past_the_slots = refl
 
 -- a version that no info has
-version_3 : next_code_of (4 ∷ 66 ∷ []) 0 3 0 ≡ Refused (refuse_of version)
+version_3 : next_code_of (4 ∷ 66 ∷ []) 0 3 0 ≡ Err (refuse_of version)
 unfolding next_code_of form_of in_slots in_two in_three must numbers_at number_at beyond_of
 version_3 = refl

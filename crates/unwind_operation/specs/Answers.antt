@@ -1,7 +1,7 @@
 -- What the answer of this crate stands for, how many numbers that is, and how a definition goes on from it.
 -- Assumes nothing.
-use Rattle.std.specs.Prelude.{List, [], ◌∷◌, ℕ}
-use Rattle.answer.specs.Answer.{Answer, accepted, refused}
+use Rattle.std.specs.Prelude.{Result, List, [], ◌∷◌, ℕ}
+use Rattle.answer.specs.Answer.{Answer, answer_of}
 use Rattle.answer.specs.Test.{pick}
 use Rattle.answer.specs.declared.Refusal.{Refusal}
 use Rattle.unwind_operation.specs.declared.StackFrameOffset.{StackFrameOffset}
@@ -10,8 +10,6 @@ use Rattle.unwind_operation.specs.declared.UnwindOperation.{UnwindOperation}
 use Rattle.unwind_operation.specs.declared.UnwindOperation.TheVariants.{PushNonVolatile, Alloc, SetFPRegister, SaveNonVolatile, SaveXMM, Epilog, SaveXMM128, PushMachineFrame, Noop}
 use Rattle.unwind_operation.specs.declared.UnwindCode.{UnwindCode}
 use Rattle.unwind_operation.specs.declared.TakenCode.{TakenCode}
-use Rattle.unwind_operation.specs.declared.NextCode.{NextCode}
-use Rattle.unwind_operation.specs.declared.NextCode.TheVariants.{Value, Refused}
 
 -- 11.15: the base, 0 for RSP and 1 for the frame register, then the offset
 abbrev pub offset_numbers : StackFrameOffset → List ℕ
@@ -35,13 +33,8 @@ abbrev pub code_numbers : UnwindCode → List ℕ
 code_numbers c = c.code_offset ∷ operation_numbers c.operation
 
 -- the place after the operation, then the code
-abbrev pub answer_next_code : NextCode → Answer
-answer_next_code (Value t) = accepted (t.next ∷ code_numbers t.code)
-answer_next_code (Refused k) = refused k
+abbrev pub answer_next_code : Result TakenCode Refusal → Answer
+answer_next_code = answer_of (λ t. t.next ∷ code_numbers t.code)
 
 abbrev pub count_next_code : ℕ
 count_next_code = 6
-
-abbrev pub on_next_code : {A : Type 0} → NextCode → (Refusal → A) → (TakenCode → A) → A
-on_next_code (Value t) refusal on = on t
-on_next_code (Refused k) refusal on = refusal k

@@ -1,7 +1,9 @@
 -- The unwind operations in their slots (Microsoft, "x64 exception handling", struct UNWIND_CODE). The slots of an unwind info are lent
 -- here by themselves, two bytes each, so that their number is the count of the info.
 -- Assumes nothing.
-use Rattle.std.specs.Prelude.{ℕ, ◌+◌, ◌*◌, ◌/◌, ◌%◌, List, [], ◌∷◌, Bool, true, false, length, leb, eqb}
+use Rattle.unwind_operation.specs.declared.TakenCode.{TakenCode}
+use Rattle.std.specs.Prelude.{Result, Ok, Err, ℕ, ◌+◌, ◌*◌, ◌/◌, ◌%◌, List, [], ◌∷◌, Bool, true, false, length, leb, eqb}
+use Rattle.answer.specs.declared.Refusal.{Refusal}
 use Rattle.answer.specs.Answer.{refuse_of, beyond_of, version, operation}
 use Rattle.answer.specs.Test.{pick, must}
 use Rattle.fields.specs.Number.{number_at}
@@ -11,8 +13,6 @@ use Rattle.unwind_operation.specs.declared.StackFrameOffset.{StackFrameOffset}
 use Rattle.unwind_operation.specs.declared.StackFrameOffset.TheVariants.{RSP, FP}
 use Rattle.unwind_operation.specs.declared.UnwindOperation.{UnwindOperation}
 use Rattle.unwind_operation.specs.declared.UnwindOperation.TheVariants.{PushNonVolatile, Alloc, SetFPRegister, SaveNonVolatile, SaveXMM, Epilog, SaveXMM128, PushMachineFrame, Noop}
-use Rattle.unwind_operation.specs.declared.NextCode.{NextCode}
-use Rattle.unwind_operation.specs.declared.NextCode.TheVariants.{Value, Refused}
 
 -- 10.1: there are versions 1 and 2
 abbrev pub known_version_of : ℕ → Bool
@@ -105,30 +105,30 @@ abbrev pub slot_count : List ℕ → ℕ
 slot_count s = length s / 2
 
 -- 11.10: `n` slots from `at` on are there, or the refusal is 1, and no longer file would have them
-unfoldable pub in_slots : List ℕ → ℕ → ℕ → NextCode → NextCode
-in_slots s at n on = pick (leb (at + n) (slot_count s)) on (Refused beyond_of)
+unfoldable pub in_slots : List ℕ → ℕ → ℕ → Result TakenCode Refusal → Result TakenCode Refusal
+in_slots s at n on = pick (leb (at + n) (slot_count s)) on (Err beyond_of)
 
 -- the operation, and the place after its slots
-abbrev pub taken : ℕ → UnwindOperation → ℕ → NextCode
-taken offset o next = Value (record { code = record { code_offset = offset; operation = o }; next = next })
+abbrev pub taken : ℕ → UnwindOperation → ℕ → Result TakenCode Refusal
+taken offset o next = Ok (record { code = record { code_offset = offset; operation = o }; next = next })
 
 -- 11.4: in two slots, the second has the number
-unfoldable pub in_two : List ℕ → ℕ → ℕ → Pending → ℕ → NextCode
+unfoldable pub in_two : List ℕ → ℕ → ℕ → Pending → ℕ → Result TakenCode Refusal
 in_two s at offset k frame = in_slots s at 2 (taken offset (operation_of frame k (scale_of k * number_at false 2 s (2 * at + 2))) (at + 2))
 
 -- 11.4: in three slots, the second and the third have it
-unfoldable pub in_three : List ℕ → ℕ → ℕ → Pending → ℕ → NextCode
+unfoldable pub in_three : List ℕ → ℕ → ℕ → Pending → ℕ → Result TakenCode Refusal
 in_three s at offset k frame = in_slots s at 3 (taken offset (operation_of frame k (number_at false 4 s (2 * at + 2))) (at + 3))
 
 -- 11.3: an operation that there is not is refused with 7
-abbrev pub by_form : Form → List ℕ → ℕ → ℕ → ℕ → NextCode
+abbrev pub by_form : Form → List ℕ → ℕ → ℕ → ℕ → Result TakenCode Refusal
 by_form (one o) s at offset frame = taken offset o (at + 1)
 by_form (two k) s at offset frame = in_two s at offset k frame
 by_form (three k) s at offset frame = in_three s at offset k frame
-by_form unknown s at offset frame = Refused (refuse_of operation)
+by_form unknown s at offset frame = Err (refuse_of operation)
 
 -- 11.11: the operation at a place among the slots, by the version and the frame register of its info
-unfoldable pub next_code_of : List ℕ → ℕ → ℕ → ℕ → NextCode
+unfoldable pub next_code_of : List ℕ → ℕ → ℕ → ℕ → Result TakenCode Refusal
 next_code_of s at v frame =
-    must Refused (known_version_of v) version
+    must Err (known_version_of v) version
     (in_slots s at 1 (by_form (form_of v (offset_at s at) (op_at s at) (info_at s at)) s at (offset_at s at) frame))

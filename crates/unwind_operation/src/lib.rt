@@ -2,23 +2,24 @@
 // that they name.
 #![tactic(auto)]
 
-ghost use Rattle.std.specs.Prelude.{◌≡◌, ◌*◌, ◌/◌, ◌%◌, ◌<◌, length};
-ghost use Rattle.unwind_operation.specs.Operation.{known_version_of, form_of, scale_of, operation_of, saved_at, in_two, in_three, next_code_of};
+ghost use Rattle.std.specs.Prelude.{◌≡◌, ◌∷◌, ◌*◌, ◌/◌, ◌%◌, ◌<◌, length, Ok};
+ghost use Rattle.unwind_operation.specs.Answers.{code_numbers, offset_numbers, operation_numbers};
+ghost use Rattle.unwind_operation.specs.Operation.{known_version_of, form_of, scale_of, operation_of, saved_at, in_two, in_three, taken, next_code_of};
 ghost use Rattle.unwind_operation.specs.Code.{pending_of, form_in};
 ghost use Rattle.unwind_operation.specs.Names.{name_of};
 
-use answer::{Reason, Refusal};
-use fields::{ReadU16, ReadU32};
+use answer::{Numbers, Reason, Refusal};
+use fields::Unsigned;
 
 // Where a register is saved, and what its offset counts from.
-#[derive(Clone, Copy)]
+#[derive(Clone, Copy, Debug, PartialEq, Eq)]
 pub enum StackFrameOffset {
     RSP(u32),
     // The frame register.
     FP(u32),
 }
 
-#[derive(Clone, Copy)]
+#[derive(Clone, Copy, Debug, PartialEq, Eq)]
 pub enum UnwindOperation {
     PushNonVolatile(Register),
     Alloc(u32),
@@ -37,23 +38,55 @@ pub enum UnwindOperation {
     Noop,
 }
 
-#[derive(Clone, Copy)]
+#[derive(Clone, Copy, Debug, PartialEq, Eq)]
 pub struct UnwindCode {
     pub code_offset: u8,
     pub operation: UnwindOperation,
 }
 
-#[derive(Clone, Copy)]
+impl Numbers<5> for UnwindCode {
+    ghost numbers = { code_numbers };
+
+    fn numbers(self) -> [u64; 5] {
+        let [kind, register, base, amount] = operation_values(self.operation);
+        [self.code_offset.into(), kind, register, base, amount]
+    }
+}
+
+// The kind, the register, the base and the amount.
+fn operation_values(o: UnwindOperation) -> [u64; 4]
+    ensures { result ≡ operation_numbers o }
+{
+    match o {
+        UnwindOperation::PushNonVolatile(r) => [0, r.0.into(), 0, 0],
+        UnwindOperation::Alloc(n) => [1, 0, 0, n.into()],
+        UnwindOperation::SetFPRegister => [2, 0, 0, 0],
+        UnwindOperation::SaveNonVolatile(r, place) => save_values(3, r, place),
+        UnwindOperation::SaveXMM(r, place) => save_values(4, r, place),
+        UnwindOperation::Epilog {
+            offset_low_or_size,
+            offset_high_or_flags,
+        } => [5, 0, offset_high_or_flags.into(), offset_low_or_size.into()],
+        UnwindOperation::SaveXMM128(r, place) => save_values(6, r, place),
+        UnwindOperation::PushMachineFrame(e) => [7, 0, 0, e.into()],
+        UnwindOperation::Noop => [8, 0, 0, 0],
+    }
+}
+
+fn save_values(kind: u64, r: Register, place: StackFrameOffset) -> [u64; 4]
+    ensures { result ≡ kind ∷ r.0 ∷ offset_numbers place }
+{
+    match place {
+        StackFrameOffset::RSP(n) => [kind, r.0.into(), 0, n.into()],
+        StackFrameOffset::FP(n) => [kind, r.0.into(), 1, n.into()],
+    }
+}
+
+#[derive(Clone, Copy, Debug, PartialEq, Eq)]
 pub struct TakenCode {
     pub code: UnwindCode,
     // The slot after it.
     pub next: usize,
-}
-
-#[derive(Clone, Copy)]
-pub enum NextCode {
-    Value(TakenCode),
-    Refused(Refusal),
 }
 
 // The bytes of a slot.
@@ -77,137 +110,145 @@ enum Slots {
     Two(Numbered),
     // The second and third have a number of 32 bits, as it is.
     Three(Numbered),
-    Unknown,
 }
 
 // The operation at a place among the slots, which is a number of slots.
-pub fn next_code(slots: &[u8], place: usize, version: u8, frame: Register) -> NextCode
+pub fn next_code(
+    slots: &[u8],
+    place: usize,
+    version: u8,
+    frame: Register,
+) -> Result<TakenCode, Refusal>
     ensures { result ≡ next_code_of slots.now place version frame.0 }
 {
-    if known_version(version) {
-        if slots.len() / SLOT <= place {
-            return NextCode::Refused(answer::beyond());
-        }
-        let offset = slots[SLOT * place];
-        let byte = slots[SLOT * place + 1];
-        return match form_of(version, offset, byte) {
-            Slots::One(operation) => taken(offset, operation, place + 1),
-            Slots::Two(kind) => two_slots(slots, place, offset, kind, frame),
-            Slots::Three(kind) => three_slots(slots, place, offset, kind, frame),
-            Slots::Unknown => NextCode::Refused(answer::refuse(Reason::Operation)),
-        };
+    if !known_version(version) {
+        return Err(Reason::Version.into());
     }
-    NextCode::Refused(answer::refuse(Reason::Version))
+    if slots.len() / SLOT <= place {
+        return Err(answer::beyond());
+    }
+    let offset = slots[SLOT * place];
+    let byte = slots[SLOT * place + 1];
+    match form_of(version, offset, byte).ok_or(Reason::Operation)? {
+        Slots::One(operation) => Ok(taken(offset, operation, place + 1)),
+        Slots::Two(kind) => two_slots(slots, place, offset, kind, frame),
+        Slots::Three(kind) => three_slots(slots, place, offset, kind, frame),
+    }
 }
 
 // Whether there are unwind infos of that version.
 pub fn known_version(version: u8) -> bool
     ensures { result ≡ known_version_of version }
 {
-    if version == 1 {
-        return true;
-    }
-    version == 2
+    matches!(version, 1 | 2)
 }
 
-fn two_slots(slots: &[u8], place: usize, offset: u8, kind: Numbered, frame: Register) -> NextCode
+fn two_slots(
+    slots: &[u8],
+    place: usize,
+    offset: u8,
+    kind: Numbered,
+    frame: Register,
+) -> Result<TakenCode, Refusal>
     requires { place < length slots.now / 2 }
     ensures { result ≡ in_two slots.now place offset (pending_of kind) frame.0 }
 {
-    match fields::read_u16(slots, SLOT * place + SLOT, false) {
-        ReadU16::Value(n) => taken(offset, operation(kind, frame, scaled(kind, n)), place + 2),
-        ReadU16::Refused(_) => NextCode::Refused(answer::beyond()),
+    match u16::read(slots, SLOT * place + SLOT, false) {
+        Ok(n) => Ok(taken(offset, operation(kind, frame, scaled(kind, n)), place + 2)),
+        Err(_) => Err(answer::beyond()),
     }
 }
 
-fn three_slots(slots: &[u8], place: usize, offset: u8, kind: Numbered, frame: Register) -> NextCode
+fn three_slots(
+    slots: &[u8],
+    place: usize,
+    offset: u8,
+    kind: Numbered,
+    frame: Register,
+) -> Result<TakenCode, Refusal>
     requires { place < length slots.now / 2 }
     ensures { result ≡ in_three slots.now place offset (pending_of kind) frame.0 }
 {
-    match fields::read_u32(slots, SLOT * place + SLOT, false) {
-        ReadU32::Value(n) => taken(offset, operation(kind, frame, n), place + 3),
-        ReadU32::Refused(_) => NextCode::Refused(answer::beyond()),
+    match u32::read(slots, SLOT * place + SLOT, false) {
+        Ok(n) => Ok(taken(offset, operation(kind, frame, n), place + 3)),
+        Err(_) => Err(answer::beyond()),
     }
 }
 
-fn taken(code_offset: u8, operation: UnwindOperation, next: usize) -> NextCode
-    ensures { result ≡ NextCode.Value (record { code = record { code_offset = code_offset; operation = operation }; next = next }) }
+fn taken(code_offset: u8, operation: UnwindOperation, next: usize) -> TakenCode
+    ensures { Ok result ≡ taken code_offset operation next }
 {
-    NextCode::Value(TakenCode {
+    TakenCode {
         code: UnwindCode {
             code_offset,
             operation,
         },
         next,
-    })
+    }
 }
 
-// The form of the operation whose slot is these two bytes.
-fn form_of(version: u8, offset: u8, byte: u8) -> Slots
+// The form of the operation whose slot is these two bytes, if there is such an operation.
+fn form_of(version: u8, offset: u8, byte: u8) -> Option<Slots>
     ensures { form_in result ≡ form_of version offset (byte % 16) (byte / 16 % 16) }
 {
     let info = byte / 16;
     match byte % 16 {
-        0 => Slots::One(UnwindOperation::PushNonVolatile(Register(info))),
+        0 => Some(Slots::One(UnwindOperation::PushNonVolatile(Register(info)))),
         1 => match info {
-            0 => Slots::Two(Numbered::Alloc),
-            1 => Slots::Three(Numbered::Alloc),
-            _ => Slots::Unknown,
+            0 => Some(Slots::Two(Numbered::Alloc)),
+            1 => Some(Slots::Three(Numbered::Alloc)),
+            _ => None,
         },
-        2 => Slots::One(UnwindOperation::Alloc(info as u32 * 8 + 8)),
-        3 => Slots::One(UnwindOperation::SetFPRegister),
-        4 => Slots::Two(Numbered::SaveNonVolatile(Register(info))),
-        5 => Slots::Three(Numbered::SaveNonVolatile(Register(info))),
+        2 => Some(Slots::One(UnwindOperation::Alloc(u32::from(info) * 8 + 8))),
+        3 => Some(Slots::One(UnwindOperation::SetFPRegister)),
+        4 => Some(Slots::Two(Numbered::SaveNonVolatile(Register(info)))),
+        5 => Some(Slots::Three(Numbered::SaveNonVolatile(Register(info)))),
         6 => if version == 1 {
-            Slots::Two(Numbered::SaveXMM(Register(17 + info)))
+            Some(Slots::Two(Numbered::SaveXMM(Register(17 + info))))
         } else {
-            Slots::One(UnwindOperation::Epilog {
+            Some(Slots::One(UnwindOperation::Epilog {
                 offset_low_or_size: offset,
                 offset_high_or_flags: info,
-            })
+            }))
         },
         7 => if version == 1 {
-            Slots::Three(Numbered::SaveXMM(Register(17 + info)))
+            Some(Slots::Three(Numbered::SaveXMM(Register(17 + info))))
         } else {
-            Slots::Three(Numbered::Noop)
+            Some(Slots::Three(Numbered::Noop))
         },
-        8 => Slots::Two(Numbered::SaveXMM128(Register(17 + info))),
-        9 => Slots::Three(Numbered::SaveXMM128(Register(17 + info))),
+        8 => Some(Slots::Two(Numbered::SaveXMM128(Register(17 + info)))),
+        9 => Some(Slots::Three(Numbered::SaveXMM128(Register(17 + info)))),
         10 => match info {
-            0 => Slots::One(UnwindOperation::PushMachineFrame(false)),
-            1 => Slots::One(UnwindOperation::PushMachineFrame(true)),
-            _ => Slots::Unknown,
+            0 => Some(Slots::One(UnwindOperation::PushMachineFrame(false))),
+            1 => Some(Slots::One(UnwindOperation::PushMachineFrame(true))),
+            _ => None,
         },
-        _ => Slots::Unknown,
+        _ => None,
     }
 }
 
 fn scaled(kind: Numbered, n: u16) -> u32
     ensures { result ≡ scale_of (pending_of kind) * n }
 {
+    let n = u32::from(n);
     match kind {
-        Numbered::Alloc => 8 * (n as u32),
-        Numbered::SaveNonVolatile(_) => 8 * (n as u32),
-        Numbered::SaveXMM(_) => 16 * (n as u32),
-        Numbered::SaveXMM128(_) => 16 * (n as u32),
-        Numbered::Noop => n as u32,
+        Numbered::Alloc => 8 * n,
+        Numbered::SaveNonVolatile(_) => 8 * n,
+        Numbered::SaveXMM(_) => 16 * n,
+        Numbered::SaveXMM128(_) => 16 * n,
+        Numbered::Noop => n,
     }
 }
 
 fn operation(kind: Numbered, frame: Register, n: u32) -> UnwindOperation
     ensures { result ≡ operation_of frame.0 (pending_of kind) n }
 {
+    let place = from_base(frame, n);
     match kind {
         Numbered::Alloc => UnwindOperation::Alloc(n),
-        Numbered::SaveNonVolatile(register) => UnwindOperation::SaveNonVolatile(
-            register,
-            from_base(frame, n),
-        ),
-        Numbered::SaveXMM(register) => UnwindOperation::SaveXMM(register, from_base(frame, n)),
-        Numbered::SaveXMM128(register) => UnwindOperation::SaveXMM128(
-            register,
-            from_base(frame, n),
-        ),
+        Numbered::SaveNonVolatile(register) => UnwindOperation::SaveNonVolatile(register, place),
+        Numbered::SaveXMM(register) => UnwindOperation::SaveXMM(register, place),
+        Numbered::SaveXMM128(register) => UnwindOperation::SaveXMM128(register, place),
         Numbered::Noop => UnwindOperation::Noop,
     }
 }
@@ -216,13 +257,14 @@ fn from_base(frame: Register, n: u32) -> StackFrameOffset
     ensures { result ≡ saved_at frame.0 n }
 {
     if frame.0 == 0 {
-        return StackFrameOffset::RSP(n);
+        StackFrameOffset::RSP(n)
+    } else {
+        StackFrameOffset::FP(n)
     }
-    StackFrameOffset::FP(n)
 }
 
 // 0 to 15 are the general registers, 16 is the instruction pointer, 17 to 32 are XMM 0 to 15.
-#[derive(Clone, Copy)]
+#[derive(Clone, Copy, Debug, PartialEq, Eq)]
 pub struct Register(pub u8);
 
 const REGISTERS: usize = 33;

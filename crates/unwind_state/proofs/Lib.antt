@@ -1,3 +1,2 @@
--- `Theorems` is what a reader comes for; `Laws` has what the proofs of functions cite.
+-- `Theorems` is what a reader comes for.
 pub mod Theorems
-pub mod Laws

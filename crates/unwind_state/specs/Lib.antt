@@ -1,3 +1,3 @@
--- `State` has the registers and the window of stack words; `Code` how the answer of `word_at` stands for a definition's.
+-- `State` has the registers and the window of stack words; `Code` the word at an address, by what the code is lent.
 pub mod State
 pub mod Code

@@ -1,6 +1,6 @@
 -- The registers at a stop, and the window of stack words that is lent beside them.
 -- Assumes nothing.
-use Rattle.std.specs.Prelude.{ℕ, ◌+◌, ◌-◌, ◌*◌, ◌/◌, ◌%◌, List, Bool, ◌&&◌, length, get_or, set, leb, ltb, eqb}
+use Rattle.std.specs.Prelude.{Option, Some, None, ℕ, ◌+◌, ◌-◌, ◌*◌, ◌/◌, ◌%◌, List, Bool, ◌&&◌, length, get_or, set, leb, ltb, eqb}
 use Rattle.answer.specs.Test.{pick}
 use Rattle.unwind_state.specs.declared.State.{State}
 
@@ -35,15 +35,10 @@ pub record Window : Type 0 where
   pub base : ℕ
   pub words : List ℕ
 
--- what a window has at an address
-pub data StackWord : Type 0 where
-  held : ℕ → StackWord
-  outside : StackWord
-
 -- 16.6, 16.7: whether it has a word there: the window and the address are at multiples of 8, and the word is one of its words
 abbrev pub holds : Window → ℕ → Bool
 holds w a = eqb (w.base % 8) 0 && (eqb (a % 8) 0 && (leb w.base a && ltb ((a - w.base) / 8) (length w.words)))
 
--- 16.5: that word
-unfoldable pub word_at : Window → ℕ → StackWord
-word_at w a = pick (holds w a) (held (get_or w.words ((a - w.base) / 8) 0)) outside
+-- 16.5: that word, if it has one
+unfoldable pub word_at : Window → ℕ → Option ℕ
+word_at w a = pick (holds w a) (Some (get_or w.words ((a - w.base) / 8) 0)) None

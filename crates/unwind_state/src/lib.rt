@@ -7,18 +7,11 @@ ghost use Rattle.unwind_state.specs.Code.{word_at_of};
 
 // The registers as they are at a stop. General register 4 is RSP. XMM register `n` is the words `2 * n`, the low one, and `2 * n + 1`.
 #[repr(C)]
-#[derive(Clone, Copy)]
+#[derive(Clone, Copy, Debug, PartialEq, Eq)]
 pub struct State {
     pub gpr: [u64; 16],
     pub rip: u64,
     pub xmm: [u64; 32],
-}
-
-// What a window has at an address.
-#[derive(Clone, Copy)]
-pub enum StackWord {
-    Held(u64),
-    Outside,
 }
 
 // How many general registers there are, and how many XMM registers.
@@ -37,9 +30,10 @@ impl State {
     {
         let number = register as usize;
         if number < REGISTERS {
-            return self.gpr[number];
+            self.gpr[number]
+        } else {
+            NONE
         }
-        NONE
     }
 
     // A number past the last register changes nothing, here and below.
@@ -49,7 +43,6 @@ impl State {
         let at = register as usize;
         if at < REGISTERS {
             self.gpr[at] = value;
-            return self;
         }
         self
     }
@@ -68,7 +61,6 @@ impl State {
         let n = register as usize;
         if n < REGISTERS {
             self.xmm[2 * n] = value;
-            return self;
         }
         self
     }
@@ -80,28 +72,27 @@ impl State {
         if n < REGISTERS {
             self.xmm[2 * n] = low;
             self.xmm[2 * n + 1] = high;
-            return self;
         }
         self
     }
 }
 
-// The word at an address, of a window whose first word is at `base`.
-pub fn word_at(window: &[u64], base: u64, address: u64) -> StackWord
-    ensures { result ≡ word_at_of window.now base address }
-{
-    if base % WORD != 0 {
-        return StackWord::Outside;
+// Stack words, the first at `base`, each 8 bytes above the one before.
+#[derive(Clone, Copy)]
+pub struct StackWindow<'a> {
+    pub words: &'a [u64],
+    pub base: u64,
+}
+
+impl<'a> StackWindow<'a> {
+    // The word at an address, if the window holds it.
+    pub fn word_at(self, address: u64) -> Option<u64>
+        ensures { result ≡ word_at_of self.entry.words.now self.entry.base address }
+    {
+        if self.base % WORD != 0 || address % WORD != 0 {
+            return None;
+        }
+        let place = address.checked_sub(self.base)? / WORD;
+        self.words.get(place as usize).copied()
     }
-    if address % WORD != 0 {
-        return StackWord::Outside;
-    }
-    if address < base {
-        return StackWord::Outside;
-    }
-    let place = ((address - base) / WORD) as usize;
-    if place < window.len() {
-        return StackWord::Held(window[place]);
-    }
-    StackWord::Outside
 }

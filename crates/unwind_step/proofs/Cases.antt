@@ -1,5 +1,6 @@
 -- The step on small images, by computation.
 -- Assumes nothing.
+use Rattle.std.specs.Prelude.{Some, None}
 use mathlib.Core.Path.{◌≡◌, refl}
 use mathlib.Core.List.{List, [], ◌∷◌, ◌++◌}
 use mathlib.Core.Bool.{false}
@@ -29,7 +30,6 @@ use Rattle.unwind_state.specs.declared.State.{State}
 use Rattle.unwind_undo.specs.Undo.{undo_of, last_step, undo_from, unwind_of}
 use Rattle.unwind_undo.specs.Distance.{undone_of}
 use Rattle.unwind_step.specs.Step.{relative_address_of, refused_step, done_step, found_of, step_of}
-use Rattle.unwind_step.specs.declared.RelativeAddress.TheVariants.{Inside, Outside}
 
 -- a row of a section that maps each address below 4096 to itself
 abbrev row : List ℕ
@@ -100,18 +100,18 @@ module _ (a b c d e f : ℕ) where
   unaligned = refl
 
 -- 16.9: the base itself is 0, 2 ^ 32 - 1 above it is the last address, and an address below it is outside
-at_base : relative_address_of 0x140000000 0x140000000 ≡ Inside 0
+at_base : relative_address_of 0x140000000 0x140000000 ≡ Some 0
 unfolding relative_address_of
 at_base = refl
 
-last_inside : relative_address_of 0x23FFFFFFF 0x140000000 ≡ Inside 0xFFFFFFFF
+last_inside : relative_address_of 0x23FFFFFFF 0x140000000 ≡ Some 0xFFFFFFFF
 unfolding relative_address_of
 last_inside = refl
 
-first_outside : relative_address_of 0x240000000 0x140000000 ≡ Outside
+first_outside : relative_address_of 0x240000000 0x140000000 ≡ None
 unfolding relative_address_of
 first_outside = refl
 
-below_base : relative_address_of 0x13FFFFFFF 0x140000000 ≡ Outside
+below_base : relative_address_of 0x13FFFFFFF 0x140000000 ≡ None
 unfolding relative_address_of
 below_base = refl

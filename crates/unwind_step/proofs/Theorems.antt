@@ -1,12 +1,13 @@
 -- What is proved of a step, for every input.
 -- Assumes nothing.
+use Rattle.std.specs.Prelude.{Result, Ok, Err, Option, Some, None, ℕ}
+use Rattle.answer.specs.Answer.{on_ok, values}
 use mathlib.Core.Path.{◌≡◌, refl, ap, ◌∙◌}
 use mathlib.Core.List.{List}
 use mathlib.Core.Bool.{Bool, true, false}
 use Prim.Native.Nat.{ℕ}
 use native.Mathlib.Omega.{arith}
 use lib.ListN.{length}
-use Rattle.answer.specs.Answer.{values}
 use Rattle.answer.specs.Test.{pick}
 use Rattle.answer.specs.declared.Refusal.{Refusal}
 use Rattle.answer.proofs.Unique.{same}
@@ -14,10 +15,7 @@ use Rattle.runtime_function.specs.declared.RuntimeFunction.{RuntimeFunction}
 use Rattle.pe_mapping.specs.declared.Sections.{Sections}
 use Rattle.exception_data.specs.declared.ExceptionData.{ExceptionData}
 use Rattle.runtime_lookup.specs.Lookup.{find_function_of}
-use Rattle.runtime_lookup.specs.Answers.{on_check_and_find}
 use Rattle.runtime_lookup.specs.declared.Holder.{Holder}
-use Rattle.runtime_lookup.specs.declared.CheckAndFind.{CheckAndFind}
-use Rattle.runtime_lookup.specs.declared.CheckAndFind.TheVariants as sought
 use Rattle.unwind_chain.specs.Chain.{Chain, ReadChain, chain, refused_chain, on_chain, chain_of}
 use Rattle.unwind_state.specs.State.{gpr, Window}
 use Rattle.unwind_state.specs.declared.State.{State}
@@ -26,17 +24,13 @@ use Rattle.unwind_undo.specs.Named.{names_gpr, names_xmm, any_of}
 use Rattle.unwind_undo.proofs.Kept.{Keeps, keeps_on, keeps_caller, SameGpr, SameXmm, gpr_kept, xmm_kept_lem}
 use Rattle.unwind_step.specs.Step.{relative_address_of, refused_step, step_by, undone_at, found_of, leaf_of, is_not_found, step_of}
 use Rattle.unwind_step.specs.Answers.{answer_step_answer, count_step_answer, answer_relative_address, count_relative_address}
-use Rattle.unwind_step.specs.declared.StepAnswer.{StepAnswer}
-use Rattle.unwind_step.specs.declared.StepAnswer.TheVariants.{Done, Refused}
 use Rattle.unwind_step.specs.declared.Stepped.{Stepped}
-use Rattle.unwind_step.specs.declared.RelativeAddress.{RelativeAddress}
-use Rattle.unwind_step.specs.declared.RelativeAddress.TheVariants.{Inside, Outside}
 
 -- A refusal leaves the registers.
 abbrev Leaves : State → Stepped → Type 0
-Leaves s r = (k : Refusal) → r.answer ≡ Refused k → r.state ≡ s
+Leaves s r = (k : Refusal) → r.answer ≡ Err k → r.state ≡ s
 
-done_not : {k : Refusal} → Done ≡ Refused k → ⊥
+done_not : {k : Refusal} → ◌≡◌ {A = Result Unit Refusal} (Ok tt) (Err k) → ⊥
 done_not e = let z : ◌≡◌ {A = ℕ} 0 1 = cc in omega arith
 
 module _ (s : State) where
@@ -59,14 +53,14 @@ module _ (s : State) where
   pick_leaves true x y h i = h
   pick_leaves false x y h i = i
 
-  look_leaves : (x : CheckAndFind) (f : Refusal → Stepped) (g : Holder → Stepped) → ((k : Refusal) → Leaves s (f k))
+  look_leaves : (x : Result Holder Refusal) (f : Refusal → Stepped) (g : Holder → Stepped) → ((k : Refusal) → Leaves s (f k))
       → ((h : Holder) → Leaves s (g h))
-      → Leaves s (on_check_and_find x f g)
-  look_leaves (sought.Value h) f g i j = j h
-  look_leaves (sought.Refused k) f g i j = i k
+      → Leaves s (on_ok x f g)
+  look_leaves (Ok h) f g i j = j h
+  look_leaves (Err k) f g i j = i k
 
 pub refusal_leaves : (b : List ℕ) (opened : ExceptionData) (a : ℕ) (s : State) (words : List ℕ) (base : ℕ) (k : Refusal)
-    → (step_of b opened a s words base).answer ≡ Refused k → (step_of b opened a s words base).state ≡ s
+    → (step_of b opened a s words base).answer ≡ Err k → (step_of b opened a s words base).state ≡ s
 unfolding step_of
 refusal_leaves b opened a s words base =
     look_leaves s (find_function_of b opened a)
@@ -84,7 +78,7 @@ by_kept P s (caller t) p (keeps_caller h) = h
 by_kept P s lost p h = p
 
 module _ (b : List ℕ) (opened : ExceptionData) (a : ℕ) (s : State) (words : List ℕ) (base : ℕ) (h : Holder) (c : Chain)
-    (found : find_function_of b opened a ≡ sought.Value h) (is : chain_of b opened.sections h.function ≡ chain c) where
+    (found : find_function_of b opened a ≡ Ok h) (is : chain_of b opened.sections h.function ≡ chain c) where
   abbrev w : Window
   w = record { base = base; words = words }
 
@@ -106,7 +100,7 @@ module _ (b : List ℕ) (opened : ExceptionData) (a : ℕ) (s : State) (words : 
       (xmm_kept_lem w (undone_at a c) s n e))
 
 -- Two answers that meet a promise of this crate are equal.
-pub step_unique : (b : List ℕ) (opened : ExceptionData) (a : ℕ) (s : State) (words : List ℕ) (base : ℕ) {r q : StepAnswer} {t u : State}
+pub step_unique : (b : List ℕ) (opened : ExceptionData) (a : ℕ) (s : State) (words : List ℕ) (base : ℕ) {r q : Result Unit Refusal} {t u : State}
     → record { answer = r; state = t } ≡ step_of b opened a s words base → record { answer = q; state = u } ≡ step_of b opened a s words base
     → (r ≡ q) × (t ≡ u)
 step_unique b opened a s words base e f = (ap (λ (z : Stepped). z.answer) (same e f), ap (λ (z : Stepped). z.state) (same e f))
@@ -115,15 +109,15 @@ pub step_value_unique : (b : List ℕ) (opened : ExceptionData) (a : ℕ) (s : S
     → r ≡ step_of b opened a s words base → q ≡ step_of b opened a s words base → r ≡ q
 step_value_unique b opened a s words base = same
 
-pub relative_address_unique : (rip image : ℕ) {r q : RelativeAddress} → r ≡ relative_address_of rip image → q ≡ relative_address_of rip image
+pub relative_address_unique : (rip image : ℕ) {r q : Option ℕ} → r ≡ relative_address_of rip image → q ≡ relative_address_of rip image
     → r ≡ q
 relative_address_unique rip image = same
 
 -- Each answer has as many numbers as it says, zeros where it is refused.
-pub step_count : (a : StepAnswer) → length (values count_step_answer (answer_step_answer a)) ≡ count_step_answer
-step_count Done = refl
-step_count (Refused k) = refl
+pub step_count : (a : Result Unit Refusal) → length (values count_step_answer (answer_step_answer a)) ≡ count_step_answer
+step_count (Ok tt) = refl
+step_count (Err k) = refl
 
-pub relative_address_count : (a : RelativeAddress) → length (values count_relative_address (answer_relative_address a)) ≡ count_relative_address
-relative_address_count (Inside a) = refl
-relative_address_count Outside = refl
+pub relative_address_count : (a : Option ℕ) → length (values count_relative_address (answer_relative_address a)) ≡ count_relative_address
+relative_address_count (Some a) = refl
+relative_address_count None = refl

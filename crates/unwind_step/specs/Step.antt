@@ -1,35 +1,31 @@
 -- One unwinding step, and the address of RIP in an image.
 -- Assumes nothing.
-use Rattle.std.specs.Prelude.{ℕ, ◌-◌, ◌^◌, List, Bool, leb, ltb, eqb}
-use Rattle.answer.specs.Answer.{refuse_of, number_of, number_of_reason, not_found, stack}
+use Rattle.std.specs.Prelude.{Ok, Err, Option, Some, None, ℕ, ◌-◌, ◌^◌, List, Bool, leb, ltb, eqb}
+use Rattle.answer.specs.Answer.{on_ok, refuse_of, number_of, number_of_reason, not_found, stack}
 use Rattle.answer.specs.Test.{pick}
 use Rattle.answer.specs.declared.Refusal.{Refusal}
 use Rattle.runtime_function.specs.declared.RuntimeFunction.{RuntimeFunction}
 use Rattle.pe_mapping.specs.declared.Sections.{Sections}
 use Rattle.exception_data.specs.declared.ExceptionData.{ExceptionData}
 use Rattle.runtime_lookup.specs.Lookup.{find_function_of}
-use Rattle.runtime_lookup.specs.Answers.{on_check_and_find}
 use Rattle.unwind_array.specs.Arrays.{ChainCode, joined_of}
 use Rattle.unwind_chain.specs.Chain.{Chain, on_chain, chain_of, arrays_of}
 use Rattle.unwind_state.specs.State.{Window}
 use Rattle.unwind_state.specs.declared.State.{State}
 use Rattle.unwind_undo.specs.Undo.{Undone, on, caller, lost, base_when_undone, last_step, unwind_of}
 use Rattle.unwind_undo.specs.Distance.{distance_of, undone_of}
-use Rattle.unwind_step.specs.declared.StepAnswer.TheVariants.{Done, Refused}
 use Rattle.unwind_step.specs.declared.Stepped.{Stepped}
-use Rattle.unwind_step.specs.declared.RelativeAddress.{RelativeAddress}
-use Rattle.unwind_step.specs.declared.RelativeAddress.TheVariants.{Inside, Outside}
 
 -- 16.9: RIP less the base of the image, if it is not below 0 and is below 2 ^ 32
-unfoldable pub relative_address_of : ℕ → ℕ → RelativeAddress
-relative_address_of rip image = pick (leb image rip) (pick (ltb (rip - image) (2 ^ 32)) (Inside (rip - image)) Outside) Outside
+unfoldable pub relative_address_of : ℕ → ℕ → Option ℕ
+relative_address_of rip image = pick (leb image rip) (pick (ltb (rip - image) (2 ^ 32)) (Some (rip - image)) None) None
 
 -- 16.3: a refusal leaves the registers as they were
 abbrev pub refused_step : State → Refusal → Stepped
-refused_step s k = record { answer = Refused k; state = s }
+refused_step s k = record { answer = Err k; state = s }
 
 abbrev pub done_step : State → Stepped
-done_step t = record { answer = Done; state = t }
+done_step t = record { answer = Ok tt; state = t }
 
 -- 16.7, 16.29: what undoing comes to from these registers; a step never ends with registers to go on with
 abbrev pub step_by : State → Undone → Stepped
@@ -58,6 +54,6 @@ is_not_found k = eqb (number_of k) (number_of_reason not_found)
 -- 16.8, 16.10: a step: the lookup, then the chain, then the codes
 unfoldable pub step_of : List ℕ → ExceptionData → ℕ → State → List ℕ → ℕ → Stepped
 step_of s opened address state words base =
-    on_check_and_find (find_function_of s opened address)
+    on_ok (find_function_of s opened address)
     (λ k. pick (is_not_found k) (leaf_of state (record { base = base; words = words })) (refused_step state k))
     (λ h. found_of s opened.sections h.function address state words base)

@@ -1,5 +1,6 @@
 -- A register that no code names keeps its value, RSP and RIP aside.
 -- Assumes nothing.
+use Rattle.std.specs.Prelude.{Option, Some, None}
 use mathlib.Core.Path.{◌≡◌, refl, ◌∙◌}
 use mathlib.Core.List.{List, [], ◌∷◌}
 use mathlib.Core.Bool.{Bool, true, false, ◌||◌}
@@ -13,7 +14,7 @@ use Rattle.answer.specs.Test.{pick}
 use Rattle.unwind_operation.specs.declared.UnwindOperation.{UnwindOperation}
 use Rattle.unwind_operation.specs.declared.UnwindOperation.TheVariants.{PushNonVolatile, Alloc, SetFPRegister, SaveNonVolatile, SaveXMM, Epilog, SaveXMM128, PushMachineFrame, Noop}
 use Rattle.unwind_array.specs.Arrays.{Frame, ChainCode}
-use Rattle.unwind_state.specs.State.{gpr, rsp, with_gpr, with_rsp, with_rip, with_xmm_low, with_xmm, Window, StackWord, held, outside, word_at}
+use Rattle.unwind_state.specs.State.{gpr, rsp, with_gpr, with_rsp, with_rip, with_xmm_low, with_xmm, Window, word_at}
 use Rattle.unwind_state.specs.declared.State.{State}
 use Rattle.unwind_undo.specs.Undo.{Undone, on, caller, lost, on_word, word, xmm_number, place_of, base_when_undone, undo_of, last_step, and_then, undo_from, unwind_of, framed_by}
 use Rattle.unwind_undo.specs.Named.{names_gpr, names_xmm, any_of}
@@ -29,9 +30,9 @@ module _ (P : State → Type 0) where
   pick_keeps true h i = h
   pick_keeps false h i = i
 
-  word_keeps_by : (d : StackWord) (k : ℕ → Undone) → ((v : ℕ) → Keeps P (k v)) → Keeps P (on_word d k)
-  word_keeps_by (held v) k h = h v
-  word_keeps_by outside k h = keeps_lost
+  word_keeps_by : (d : Option ℕ) (k : ℕ → Undone) → ((v : ℕ) → Keeps P (k v)) → Keeps P (on_word d k)
+  word_keeps_by (Some v) k h = h v
+  word_keeps_by None k h = keeps_lost
 
   word_keeps : (w : Window) (a : ℕ) (k : ℕ → Undone) → ((v : ℕ) → Keeps P (k v)) → Keeps P (word w a k)
   word_keeps w a k h = pick_keeps (ltb a (2 ^ 64)) (word_keeps_by (word_at w a) k h) keeps_lost

@@ -1,6 +1,6 @@
 -- What undoing an operation does to the registers, what undoing the codes of a chain in order does, and the last step.
 -- Assumes nothing.
-use Rattle.std.specs.Prelude.{ℕ, ◌+◌, ◌-◌, ◌^◌, List, [], ◌∷◌, Bool, true, false, leb, ltb, eqb}
+use Rattle.std.specs.Prelude.{Option, Some, None, ℕ, ◌+◌, ◌-◌, ◌^◌, List, [], ◌∷◌, Bool, true, false, leb, ltb, eqb}
 use Rattle.answer.specs.Test.{pick}
 use Rattle.unwind_operation.specs.declared.Register.{Register}
 use Rattle.unwind_operation.specs.declared.StackFrameOffset.{StackFrameOffset}
@@ -8,7 +8,7 @@ use Rattle.unwind_operation.specs.declared.StackFrameOffset.TheVariants.{RSP, FP
 use Rattle.unwind_operation.specs.declared.UnwindOperation.{UnwindOperation}
 use Rattle.unwind_operation.specs.declared.UnwindOperation.TheVariants.{PushNonVolatile, Alloc, SetFPRegister, SaveNonVolatile, SaveXMM, Epilog, SaveXMM128, PushMachineFrame, Noop}
 use Rattle.unwind_array.specs.Arrays.{Frame, ChainCode}
-use Rattle.unwind_state.specs.State.{gpr, rsp, with_gpr, with_rsp, with_rip, with_xmm_low, with_xmm, Window, StackWord, held, outside, word_at}
+use Rattle.unwind_state.specs.State.{gpr, rsp, with_gpr, with_rsp, with_rip, with_xmm_low, with_xmm, Window, word_at}
 use Rattle.unwind_state.specs.declared.State.{State}
 
 -- what undoing comes to: registers to go on with (16.16), the caller's registers (16.26, 16.27), or 12 (16.7, 16.29)
@@ -25,9 +25,9 @@ within a k = pick (ltb a (2 ^ 64)) (k a) lost
 abbrev pub less : ℕ → ℕ → (ℕ → Undone) → Undone
 less a n k = pick (leb n a) (k (a - n)) lost
 
-abbrev pub on_word : StackWord → (ℕ → Undone) → Undone
-on_word (held v) k = k v
-on_word outside k = lost
+abbrev pub on_word : Option ℕ → (ℕ → Undone) → Undone
+on_word (Some v) k = k v
+on_word None k = lost
 
 -- 16.7, 16.29: the stack word at an address, unless the window does not hold it
 abbrev pub word : Window → ℕ → (ℕ → Undone) → Undone

@@ -1,36 +1,27 @@
 // What undoing one operation does to the registers of a frame, and the last step of an unwinding step, by value.
 #![tactic(auto)]
 
-ghost use Rattle.std.specs.Prelude.{◌≡◌, ◌+◌};
-ghost use Rattle.unwind_undo.specs.Undo.{place_of, xmm_number};
-ghost use Rattle.unwind_undo.specs.Code.{sum_of, less_of, word_of, base_of, saved_of, push_of, alloc_of, set_frame_of, save_of, save_low_of, save_xmm_of, machine_frame_of, frame_above, undo_operation_of, last_step_of};
+ghost use Rattle.std.specs.Prelude.{◌≡◌, ◌+◌, ◌<◌};
+ghost use Rattle.unwind_undo.specs.Undo.{place_of, xmm_number, undo_push, undo_alloc, undo_set_frame, undo_machine_frame};
+ghost use Rattle.unwind_undo.specs.Code.{on_of, caller_of, window_of, frame_at, word_of, base_of, saved_of, undo_operation_of, last_step_of};
 
 use unwind_operation::{Register, StackFrameOffset, UnwindOperation};
-use unwind_state::{StackWord, State};
+use unwind_state::{StackWindow, State};
 
 // What undoing comes to.
-#[derive(Clone, Copy)]
-pub enum UndoOutcome {
+#[derive(Clone, Copy, Debug, PartialEq, Eq)]
+pub enum Undone {
     // Registers to go on with.
-    On,
+    On(State),
     // The registers of the caller.
-    Caller,
-    // A stack word is not in the window, or an address leaves 64 bits.
-    Lost,
+    Caller(State),
 }
 
-// The registers beside it; where it is lost, those that were given.
-#[derive(Clone, Copy)]
-pub struct Undo {
-    pub outcome: UndoOutcome,
-    pub state: State,
-}
-
-// An address, or one that leaves 64 bits.
-#[derive(Clone, Copy)]
-enum Place {
-    There(u64),
-    Beyond,
+// The frame of an info: its frame register and its frame offset.
+#[derive(Clone, Copy, Debug, PartialEq, Eq)]
+pub struct Frame {
+    pub register: Register,
+    pub offset: u32,
 }
 
 // RSP among the general registers, and the first XMM register among all.
@@ -44,293 +35,124 @@ const WORD: u64 = 8;
 const OLD_RSP: u64 = 24;
 
 // The bytes of an error code below a machine frame.
-const ERROR_CODE: u32 = 8;
+const ERROR_CODE: u64 = 8;
 
-const LAST: u64 = 0xFFFF_FFFF_FFFF_FFFF;
-
-// What undoing an operation of an info with this frame register and frame offset does.
+// What undoing an operation of an info with this frame does; none where a stack word is not in the window, or an address leaves 64 bits.
 pub fn undo_operation(
     operation: UnwindOperation,
-    frame: Register,
-    offset: u32,
+    frame: Frame,
     state: State,
-    window: &[u64],
-    base: u64,
-) -> Undo
-    ensures { result ≡ undo_operation_of operation frame.0 offset state window.now base }
+    window: StackWindow,
+) -> Option<Undone>
+    ensures { result ≡ undo_operation_of operation frame.register.0 frame.offset state window.entry.words.now window.entry.base }
 {
-    match operation {
-        UnwindOperation::PushNonVolatile(r) => push(r, state, window, base),
-        UnwindOperation::Alloc(n) => alloc(n, state),
-        UnwindOperation::SetFPRegister => set_frame(frame, offset, state),
-        UnwindOperation::SaveNonVolatile(r, place) => save(
-            r,
-            bytes_of(place),
-            frame,
-            offset,
-            state,
-            window,
-            base,
-        ),
-        UnwindOperation::SaveXMM(r, place) => save_low(
-            xmm_number(r),
-            bytes_of(place),
-            frame,
-            offset,
-            state,
-            window,
-            base,
-        ),
-        UnwindOperation::Epilog {
-            offset_low_or_size: _,
-            offset_high_or_flags: _,
-        } => Undo {
-            outcome: UndoOutcome::On,
-            state,
-        },
-        UnwindOperation::SaveXMM128(r, place) => save_xmm(
-            xmm_number(r),
-            bytes_of(place),
-            frame,
-            offset,
-            state,
-            window,
-            base,
-        ),
-        UnwindOperation::PushMachineFrame(code) => machine_frame(code, state, window, base),
-        UnwindOperation::Noop => Undo {
-            outcome: UndoOutcome::On,
-            state,
-        },
-    }
+    let undone = match operation {
+        UnwindOperation::PushNonVolatile(r) => push(r, state, window)?,
+        UnwindOperation::Alloc(n) => alloc(n, state)?,
+        UnwindOperation::SetFPRegister => set_frame(frame, state)?,
+        UnwindOperation::SaveNonVolatile(r, place) => {
+            let value = saved_word(bytes_of(place), frame, state, window)?;
+            state.with_gpr(r.0, value)
+        }
+        UnwindOperation::SaveXMM(r, place) => {
+            let value = saved_word(bytes_of(place), frame, state, window)?;
+            state.with_xmm_low(xmm_number(r), value)
+        }
+        UnwindOperation::SaveXMM128(r, place) => {
+            let by = bytes_of(place);
+            let low = saved_word(by, frame, state, window)?;
+            let high = saved_word(by + WORD, frame, state, window)?;
+            state.with_xmm(xmm_number(r), low, high)
+        }
+        UnwindOperation::PushMachineFrame(code) => {
+            return Some(Undone::Caller(machine_frame(code, state, window)?));
+        }
+        UnwindOperation::Epilog { .. } | UnwindOperation::Noop => state,
+    };
+    Some(Undone::On(undone))
 }
 
 // The last step: RIP is the word at RSP, and RSP grows by 8.
-pub fn last_step(state: State, window: &[u64], base: u64) -> Undo
-    ensures { result ≡ last_step_of state window.now base }
+pub fn last_step(state: State, window: StackWindow) -> Option<Undone>
+    ensures { result ≡ last_step_of state window.entry.words.now window.entry.base }
 {
     let rsp = state.get_gpr(RSP);
-    match word_above(rsp, 0, window, base) {
-        StackWord::Held(rip) => match above(rsp, WORD) {
-            Place::There(a) => Undo {
-                outcome: UndoOutcome::Caller,
-                state: state.with_gpr(RSP, a).with_rip(rip),
-            },
-            Place::Beyond => lost(state),
-        },
-        StackWord::Outside => lost(state),
-    }
-}
-
-fn lost(state: State) -> Undo
-    ensures { result ≡ record { outcome = UndoOutcome.Lost; state = state } }
-{
-    Undo {
-        outcome: UndoOutcome::Lost,
-        state,
-    }
-}
-
-fn above(from: u64, by: u64) -> Place
-    ensures { result ≡ sum_of (from + by) }
-{
-    if LAST - by < from {
-        return Place::Beyond;
-    }
-    Place::There(from + by)
-}
-
-fn below(from: u64, by: u64) -> Place
-    ensures { result ≡ less_of from by }
-{
-    if by <= from {
-        return Place::There(from - by);
-    }
-    Place::Beyond
+    let rip = word_above(rsp, 0, window)?;
+    let next = rsp.checked_add(WORD)?;
+    Some(Undone::Caller(state.with_gpr(RSP, next).with_rip(rip)))
 }
 
 // The stack word that is so far above an address.
-fn word_above(from: u64, by: u64, window: &[u64], base: u64) -> StackWord
-    ensures { result ≡ word_of window.now base (from + by) }
+fn word_above(from: u64, by: u64, window: StackWindow) -> Option<u64>
+    ensures { result ≡ word_of window.entry.words.now window.entry.base (from + by) }
 {
-    match above(from, by) {
-        Place::There(address) => unwind_state::word_at(window, base, address),
-        Place::Beyond => StackWord::Outside,
-    }
+    let address = from.checked_add(by)?;
+    window.word_at(address)
 }
 
 // What the place of a save counts from.
-fn base_of(frame: Register, offset: u32, state: State) -> Place
-    ensures { result ≡ base_of frame.0 offset state }
+fn base_of(frame: Frame, state: State) -> Option<u64>
+    ensures { result ≡ base_of frame.register.0 frame.offset state }
 {
-    if frame.0 == 0 {
-        return Place::There(state.get_gpr(RSP));
-    }
-    below(state.get_gpr(frame.0), offset as u64)
-}
-
-fn push(register: Register, state: State, window: &[u64], base: u64) -> Undo
-    ensures { result ≡ push_of register.0 state window.now base }
-{
-    match word_above(state.get_gpr(RSP), 0, window, base) {
-        StackWord::Held(value) => {
-            let loaded = state.with_gpr(register.0, value);
-            match above(loaded.get_gpr(RSP), WORD) {
-                Place::There(a) => Undo {
-                    outcome: UndoOutcome::On,
-                    state: loaded.with_gpr(RSP, a),
-                },
-                Place::Beyond => lost(state),
-            }
-        }
-        StackWord::Outside => lost(state),
+    if frame.register.0 == 0 {
+        Some(state.get_gpr(RSP))
+    } else {
+        state
+            .get_gpr(frame.register.0)
+            .checked_sub(frame.offset as u64)
     }
 }
 
-fn alloc(size: u32, state: State) -> Undo
-    ensures { result ≡ alloc_of size state }
+fn push(register: Register, state: State, window: StackWindow) -> Option<State>
+    ensures { on_of result ≡ undo_push (window_of window.entry.words.now window.entry.base) register.0 state }
 {
-    match above(state.get_gpr(RSP), size as u64) {
-        Place::There(a) => Undo {
-            outcome: UndoOutcome::On,
-            state: state.with_gpr(RSP, a),
-        },
-        Place::Beyond => lost(state),
-    }
+    let value = word_above(state.get_gpr(RSP), 0, window)?;
+    let loaded = state.with_gpr(register.0, value);
+    let next = loaded.get_gpr(RSP).checked_add(WORD)?;
+    Some(loaded.with_gpr(RSP, next))
 }
 
-fn set_frame(frame: Register, offset: u32, state: State) -> Undo
-    ensures { result ≡ set_frame_of frame.0 offset state }
+fn alloc(size: u32, state: State) -> Option<State>
+    ensures { on_of result ≡ undo_alloc size state }
 {
-    match below(state.get_gpr(frame.0), offset as u64) {
-        Place::There(a) => Undo {
-            outcome: UndoOutcome::On,
-            state: state.with_gpr(RSP, a),
-        },
-        Place::Beyond => lost(state),
-    }
+    let next = state.get_gpr(RSP).checked_add(size as u64)?;
+    Some(state.with_gpr(RSP, next))
 }
 
-fn save(
-    register: Register,
-    by: u32,
-    frame: Register,
-    offset: u32,
-    state: State,
-    window: &[u64],
-    base: u64,
-) -> Undo
-    ensures { result ≡ save_of register.0 by frame.0 offset state window.now base }
+fn set_frame(frame: Frame, state: State) -> Option<State>
+    ensures { on_of result ≡ undo_set_frame (frame_at frame.register.0 frame.offset) state }
 {
-    match saved_word(by as u64, frame, offset, state, window, base) {
-        StackWord::Held(value) => Undo {
-            outcome: UndoOutcome::On,
-            state: state.with_gpr(register.0, value),
-        },
-        StackWord::Outside => lost(state),
-    }
+    let rsp = state
+        .get_gpr(frame.register.0)
+        .checked_sub(frame.offset as u64)?;
+    Some(state.with_gpr(RSP, rsp))
 }
 
-fn save_low(
-    number: u8,
-    by: u32,
-    frame: Register,
-    offset: u32,
-    state: State,
-    window: &[u64],
-    base: u64,
-) -> Undo
-    ensures { result ≡ save_low_of number by frame.0 offset state window.now base }
+fn machine_frame(code: bool, state: State, window: StackWindow) -> Option<State>
+    ensures { caller_of result ≡ undo_machine_frame (window_of window.entry.words.now window.entry.base) code state }
 {
-    match saved_word(by as u64, frame, offset, state, window, base) {
-        StackWord::Held(value) => Undo {
-            outcome: UndoOutcome::On,
-            state: state.with_xmm_low(number, value),
-        },
-        StackWord::Outside => lost(state),
-    }
-}
-
-fn save_xmm(
-    number: u8,
-    by: u32,
-    frame: Register,
-    offset: u32,
-    state: State,
-    window: &[u64],
-    base: u64,
-) -> Undo
-    ensures { result ≡ save_xmm_of number by frame.0 offset state window.now base }
-{
-    match saved_word(by as u64, frame, offset, state, window, base) {
-        StackWord::Held(low) => match saved_word(
-            by as u64 + WORD,
-            frame,
-            offset,
-            state,
-            window,
-            base,
-        ) {
-            StackWord::Held(high) => Undo {
-                outcome: UndoOutcome::On,
-                state: state.with_xmm(number, low, high),
-            },
-            StackWord::Outside => lost(state),
-        },
-        StackWord::Outside => lost(state),
-    }
-}
-
-fn machine_frame(code: bool, state: State, window: &[u64], base: u64) -> Undo
-    ensures { result ≡ machine_frame_of code state window.now base }
-{
-    if code {
-        return machine_frame_at(ERROR_CODE, state, window, base);
-    }
-    machine_frame_at(0, state, window, base)
-}
-
-// A machine frame whose RIP is so far above RSP.
-fn machine_frame_at(by: u32, state: State, window: &[u64], base: u64) -> Undo
-    ensures { result ≡ frame_above by state window.now base }
-{
+    let by = if code { ERROR_CODE } else { 0 };
     let rsp = state.get_gpr(RSP);
-    match word_above(rsp, by as u64, window, base) {
-        StackWord::Held(rip) => match word_above(rsp, by as u64 + OLD_RSP, window, base) {
-            StackWord::Held(old) => Undo {
-                outcome: UndoOutcome::Caller,
-                state: state.with_gpr(RSP, old).with_rip(rip),
-            },
-            StackWord::Outside => lost(state),
-        },
-        StackWord::Outside => lost(state),
-    }
+    let rip = word_above(rsp, by, window)?;
+    let old = word_above(rsp, by + OLD_RSP, window)?;
+    Some(state.with_gpr(RSP, old).with_rip(rip))
 }
 
 // The stack word at which a register is saved, so far above its base.
-fn saved_word(
-    by: u64,
-    frame: Register,
-    offset: u32,
-    state: State,
-    window: &[u64],
-    base: u64,
-) -> StackWord
-    ensures { result ≡ saved_of by frame.0 offset state window.now base }
+fn saved_word(by: u64, frame: Frame, state: State, window: StackWindow) -> Option<u64>
+    ensures { result ≡ saved_of by frame.register.0 frame.offset state window.entry.words.now window.entry.base }
 {
-    match base_of(frame, offset, state) {
-        Place::There(from) => word_above(from, by, window, base),
-        Place::Beyond => StackWord::Outside,
-    }
+    let from = base_of(frame, state)?;
+    word_above(from, by, window)
 }
 
-// How far above its base a register is saved.
-fn bytes_of(place: StackFrameOffset) -> u32
-    ensures { result ≡ place_of place }
+// How far above its base a register is saved: 32 bits at most.
+fn bytes_of(place: StackFrameOffset) -> u64
+    ensures place { result ≡ place_of place }
+    ensures most { result < 4294967296 }
 {
     match place {
-        StackFrameOffset::RSP(n) => n,
-        StackFrameOffset::FP(n) => n,
+        StackFrameOffset::RSP(n) | StackFrameOffset::FP(n) => n as u64,
     }
 }
 
@@ -338,8 +160,5 @@ fn bytes_of(place: StackFrameOffset) -> u32
 fn xmm_number(register: Register) -> u8
     ensures { result ≡ xmm_number register }
 {
-    if register.0 < XMM0 {
-        return 0;
-    }
-    register.0 - XMM0
+    register.0.saturating_sub(XMM0)
 }

@@ -1,5 +1,6 @@
 -- The definitions on small inputs, by computation.
 -- Assumes nothing.
+use Rattle.std.specs.Prelude.{Ok, Err}
 use mathlib.Core.Path.{◌≡◌, refl}
 use mathlib.Core.List.{List, [], ◌∷◌, ◌++◌}
 use mathlib.Core.Bool.{false}
@@ -12,7 +13,7 @@ use Rattle.fields.specs.Field.{put, stored}
 use Rattle.layout.specs.Layout.{read_by, numbers_at}
 use Rattle.version_section.specs.Section.{section_of, in_file}
 use Rattle.version_section.specs.Answers.{answer_count_entries}
-use Rattle.version_section.specs.declared.CountEntries.TheVariants.{Whole, Cut, Refused}
+use Rattle.version_section.specs.declared.CountEntries.TheVariants.{Whole, Cut}
 use Rattle.version_record.specs.Record.{aux_inside, onward_at_of}
 use Rattle.version_list.specs.List.{entries_from, counted_of, out_of, opened, list_of, list_out}
 use Rattle.verdef.specs.Verdef.{definitions_of, definitions_out, auxiliaries_of, auxiliaries_out}
@@ -42,7 +43,7 @@ second = 28 ∷ 1 ∷ 0 ∷ 2 ∷ 2 ∷ 8 ∷ 20 ∷ 0 ∷ []
 abbrev file : List ℕ
 file = 66 ∷ 66 ∷ section
 
-both : definitions_of false file 2 64 2 (replicate 17 3) ≡ Whole 2
+both : definitions_of false file 2 64 2 (replicate 17 3) ≡ Ok (Whole 2)
 unfolding computed
 both = refl
 
@@ -51,17 +52,17 @@ unfolding computed
 both_written = refl
 
 -- a next of 0 ends the list before its count does
-fewer_than_stated : definitions_of false file 2 64 65535 (replicate 16 3) ≡ Whole 2
+fewer_than_stated : definitions_of false file 2 64 65535 (replicate 16 3) ≡ Ok (Whole 2)
 unfolding computed
 fewer_than_stated = refl
 
 -- the count ends it before a next of 0 does
-one_stated : definitions_of false file 2 64 1 (replicate 8 3) ≡ Whole 1
+one_stated : definitions_of false file 2 64 1 (replicate 8 3) ≡ Ok (Whole 1)
 unfolding computed
 one_stated = refl
 
 -- the second definition is cut short: the first is listed, with 1, and the rest of the list stays
-one_byte_missing : definitions_of false file 2 47 2 (replicate 16 3) ≡ Cut 1
+one_byte_missing : definitions_of false file 2 47 2 (replicate 16 3) ≡ Ok (Cut 1)
 unfolding computed
 one_byte_missing = refl
 
@@ -74,12 +75,12 @@ unfolding computed
 one_byte_missing_written = refl
 
 -- its first auxiliary would be at the section's end
-auxiliary_at_the_end : definitions_of false file 2 48 2 (replicate 16 3) ≡ Cut 1
+auxiliary_at_the_end : definitions_of false file 2 48 2 (replicate 16 3) ≡ Ok (Cut 1)
 unfolding computed
 auxiliary_at_the_end = refl
 
 -- one number too few: 13, and nothing is written
-no_room : definitions_of false file 2 64 2 (replicate 15 3) ≡ Refused (refuse_of room)
+no_room : definitions_of false file 2 64 2 (replicate 15 3) ≡ Err (refuse_of room)
 unfolding computed
 no_room = refl
 
@@ -87,16 +88,16 @@ no_room_written : definitions_out false file 2 64 2 (replicate 15 3) ≡ replica
 unfolding computed
 no_room_written = refl
 
-section_past_the_file : definitions_of false file 2 65 2 [] ≡ Refused (refuse_of short)
+section_past_the_file : definitions_of false file 2 65 2 [] ≡ Err (refuse_of short)
 unfolding computed
 section_past_the_file = refl
 
 -- the count comes before the section
-too_many_of_nothing : definitions_of false file 2 65 65536 [] ≡ Refused (refuse_of limit)
+too_many_of_nothing : definitions_of false file 2 65 65536 [] ≡ Err (refuse_of limit)
 unfolding computed
 too_many_of_nothing = refl
 
-nothing_stated : definitions_of false file 2 64 0 [] ≡ Whole 0
+nothing_stated : definitions_of false file 2 64 0 [] ≡ Ok (Whole 0)
 unfolding computed
 nothing_stated = refl
 
@@ -106,14 +107,14 @@ unfolding computed
 names = refl
 
 -- numbers that no definition has
-forged : auxiliaries_of false file 2 64 0xFFFFFFFF 0xFFFFFFFF 1 (replicate 7 3) ≡ Cut 0
+forged : auxiliaries_of false file 2 64 0xFFFFFFFF 0xFFFFFFFF 1 (replicate 7 3) ≡ Ok (Cut 0)
 unfolding computed
 forged = refl
 
-forged_none : auxiliaries_of false file 2 64 0xFFFFFFFF 0xFFFFFFFF 0 [] ≡ Whole 0
+forged_none : auxiliaries_of false file 2 64 0xFFFFFFFF 0xFFFFFFFF 0 [] ≡ Ok (Whole 0)
 unfolding computed
 forged_none = refl
 
-forged_many : auxiliaries_of false file 2 64 28 20 65536 [] ≡ Refused (refuse_of limit)
+forged_many : auxiliaries_of false file 2 64 28 20 65536 [] ≡ Err (refuse_of limit)
 unfolding computed
 forged_many = refl

@@ -1,5 +1,7 @@
 -- What is proved of the section of version definitions, for every input. `version_list` has the theorems on lists.
 -- Assumes nothing.
+use Rattle.std.specs.Prelude.{Result, Err}
+use Rattle.answer.specs.declared.Refusal.{Refusal}
 use mathlib.Core.Path.{◌≡◌}
 use mathlib.Core.List.{List, [], ◌∷◌}
 use mathlib.Core.Bool.{Bool, true}
@@ -11,7 +13,6 @@ use Rattle.answer.specs.Answer.{refuse_of, limit}
 use Rattle.answer.proofs.Unique.{same_both}
 use Rattle.layout.specs.Layout.{the, numbers_at}
 use Rattle.version_section.specs.declared.CountEntries.{CountEntries}
-use Rattle.version_section.specs.declared.CountEntries.TheVariants.{Refused}
 use Rattle.version_record.specs.Record.{fields, layout, aux_inside}
 use Rattle.version_record.specs.declared.VersionRecord.TheVariants.{Verdef, Verdaux}
 use Rattle.version_list.specs.List.{row_at, entries_from, record_limit}
@@ -40,23 +41,23 @@ auxiliaries_start_inside big s stated =
 
 -- More than 65,535 stated is 3, of definitions and of auxiliaries, whatever else is passed.
 pub too_many : (big : Bool) (file : List ℕ) (start len stated : ℕ) (o : List ℕ) → record_limit < stated
-    → Refused (refuse_of limit) ≡ definitions_of big file start len stated o
+    → Err (refuse_of limit) ≡ definitions_of big file start len stated o
 unfolding definitions_of
 too_many big file start len stated o h = list.too_many Verdef big file start len stated 0 o h
 
 pub too_many_auxiliaries : (big : Bool) (file : List ℕ) (start len place aux cnt : ℕ) (o : List ℕ) → record_limit < cnt
-    → Refused (refuse_of limit) ≡ auxiliaries_of big file start len place aux cnt o
+    → Err (refuse_of limit) ≡ auxiliaries_of big file start len place aux cnt o
 unfolding auxiliaries_of
 too_many_auxiliaries big file start len place aux cnt o h = list.too_many Verdaux big file start len cnt (place + aux) o h
 
 -- Two answers that meet a promise of this crate are equal, and so are the lists that they leave.
-pub definitions_unique : (file : List ℕ) (start len stated : ℕ) (big : Bool) (o : List ℕ) {r q : CountEntries} {l m : List ℕ}
+pub definitions_unique : (file : List ℕ) (start len stated : ℕ) (big : Bool) (o : List ℕ) {r q : Result CountEntries Refusal} {l m : List ℕ}
     → (r ≡ definitions_of big file start len stated o) × (l ≡ definitions_out big file start len stated o)
     → (q ≡ definitions_of big file start len stated o) × (m ≡ definitions_out big file start len stated o)
     → (r ≡ q) × (l ≡ m)
 definitions_unique file start len stated big o = same_both
 
-pub auxiliaries_unique : (file : List ℕ) (start len place aux cnt : ℕ) (big : Bool) (o : List ℕ) {r q : CountEntries} {l m : List ℕ}
+pub auxiliaries_unique : (file : List ℕ) (start len place aux cnt : ℕ) (big : Bool) (o : List ℕ) {r q : Result CountEntries Refusal} {l m : List ℕ}
     → (r ≡ auxiliaries_of big file start len place aux cnt o) × (l ≡ auxiliaries_out big file start len place aux cnt o)
     → (q ≡ auxiliaries_of big file start len place aux cnt o) × (m ≡ auxiliaries_out big file start len place aux cnt o)
     → (r ≡ q) × (l ≡ m)

@@ -4,6 +4,7 @@
 ghost use Rattle.std.specs.Prelude.{◌≡◌};
 ghost use Rattle.verdef.specs.Verdef.{definitions_of, definitions_out, auxiliaries_of, auxiliaries_out};
 
+use answer::Refusal;
 use version_record::VersionRecord;
 use version_section::CountEntries;
 
@@ -43,7 +44,7 @@ pub fn definitions(
     stated: usize,
     big: bool,
     out: &mut [u32],
-) -> CountEntries
+) -> Result<CountEntries, Refusal>
     ensures { (result ≡ definitions_of big file.now start len stated out.old)
         × (out.new ≡ definitions_out big file.now start len stated out.old) }
 {
@@ -60,11 +61,11 @@ pub fn auxiliaries(
     cnt: u32,
     big: bool,
     out: &mut [u32],
-) -> CountEntries
+) -> Result<CountEntries, Refusal>
     ensures { (result ≡ auxiliaries_of big file.now start len place aux cnt out.old)
         × (out.new ≡ auxiliaries_out big file.now start len place aux cnt out.old) }
 {
-    let at = (place as usize) + (aux as usize);
+    let at = place as usize + aux as usize;
     version_list::list(
         file,
         start,

@@ -1,5 +1,6 @@
 -- The definitions on small inputs, by computation.
 -- Assumes nothing.
+use Rattle.std.specs.Prelude.{Ok, Err}
 use mathlib.Core.Path.{◌≡◌, refl}
 use mathlib.Core.List.{List, [], ◌∷◌, ◌++◌}
 use mathlib.Core.Bool.{true, false}
@@ -11,7 +12,7 @@ use Rattle.fields.specs.Number.{number_at}
 use Rattle.fields.specs.Field.{put, stored}
 use Rattle.layout.specs.Layout.{read_by, numbers_at}
 use Rattle.version_section.specs.Section.{section_of, in_file}
-use Rattle.version_section.specs.declared.CountEntries.TheVariants.{Whole, Cut, Refused}
+use Rattle.version_section.specs.declared.CountEntries.TheVariants.{Whole, Cut}
 use Rattle.version_record.specs.Record.{aux_inside, onward_at_of}
 use Rattle.version_record.specs.declared.VersionRecord.TheVariants.{Verneed}
 use Rattle.version_list.proofs.Theorems.{Mirrors}
@@ -38,7 +39,7 @@ first = 0 ∷ 1 ∷ 1 ∷ 40 ∷ 16 ∷ 32 ∷ []
 abbrev second : List ℕ
 second = 32 ∷ 1 ∷ 2 ∷ 60 ∷ 16 ∷ 0 ∷ []
 
-both : needs_of true section 0 64 2 (replicate 12 3) ≡ Whole 2
+both : needs_of true section 0 64 2 (replicate 12 3) ≡ Ok (Whole 2)
 unfolding computed
 both = refl
 
@@ -47,7 +48,7 @@ unfolding computed
 both_written = refl
 
 -- in the other order the auxiliary offset of the first is past the section
-other_order : needs_of false section 0 64 2 (replicate 12 3) ≡ Cut 0
+other_order : needs_of false section 0 64 2 (replicate 12 3) ≡ Ok (Cut 0)
 unfolding computed
 other_order = refl
 
@@ -68,7 +69,7 @@ swapped_written : needs_out false swapped 0 64 2 (replicate 12 3) ≡ first ++ s
 unfolding computed
 swapped_written = refl
 
-no_room : needs_of true section 0 64 2 (replicate 11 3) ≡ Refused (refuse_of room)
+no_room : needs_of true section 0 64 2 (replicate 11 3) ≡ Err (refuse_of room)
 unfolding computed
 no_room = refl
 
@@ -77,7 +78,7 @@ unfolding computed
 no_room_written = refl
 
 -- the second auxiliary of the second need would end past the section: the first is listed, with 1
-versions : auxiliaries_of true section 0 64 32 16 2 (replicate 6 3) ≡ Cut 1
+versions : auxiliaries_of true section 0 64 32 16 2 (replicate 6 3) ≡ Ok (Cut 1)
 unfolding computed
 versions = refl
 
@@ -91,6 +92,6 @@ next_inside : needs_out false (replicate 12 0 ++ (4 ∷ replicate 7 0)) 0 20 9 (
 unfolding computed
 next_inside = refl
 
-too_many_of_nothing : needs_of true [] 1 1 65536 [] ≡ Refused (refuse_of limit)
+too_many_of_nothing : needs_of true [] 1 1 65536 [] ≡ Err (refuse_of limit)
 unfolding computed
 too_many_of_nothing = refl

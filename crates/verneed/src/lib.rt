@@ -5,6 +5,7 @@
 ghost use Rattle.std.specs.Prelude.{◌≡◌};
 ghost use Rattle.verneed.specs.Verneed.{needs_of, needs_out, auxiliaries_of, auxiliaries_out};
 
+use answer::Refusal;
 use version_record::VersionRecord;
 use version_section::CountEntries;
 
@@ -46,7 +47,7 @@ pub fn needs(
     stated: usize,
     big: bool,
     out: &mut [u32],
-) -> CountEntries
+) -> Result<CountEntries, Refusal>
     ensures { (result ≡ needs_of big file.now start len stated out.old)
         × (out.new ≡ needs_out big file.now start len stated out.old) }
 {
@@ -72,11 +73,11 @@ pub fn auxiliaries(
     cnt: u32,
     big: bool,
     out: &mut [u32],
-) -> CountEntries
+) -> Result<CountEntries, Refusal>
     ensures { (result ≡ auxiliaries_of big file.now start len place aux cnt out.old)
         × (out.new ≡ auxiliaries_out big file.now start len place aux cnt out.old) }
 {
-    let at = (place as usize) + (aux as usize);
+    let at = place as usize + aux as usize;
     version_list::list(
         file,
         start,

@@ -1,5 +1,6 @@
 -- The laws of a list of version records that proofs cite.
 -- Assumes nothing.
+use Rattle.std.specs.Prelude.{Result, Ok, Err}
 use mathlib.Core.Path.{◌≡◌, refl, sym, ap, ◌∙◌}
 use mathlib.Core.List.{List, [], ◌∷◌, ◌++◌}
 use mathlib.Core.Bool.{Bool, true, false}
@@ -14,20 +15,21 @@ use Rattle.answer.specs.Answer.{refuse_of, cut_of, limit, room}
 use Rattle.answer.specs.declared.Refusal.{Refusal}
 use Rattle.answer.specs.Test.{pick, file_limit}
 use Rattle.answer.proofs.Laws.{must_on, must_off}
-use Rattle.fields.specs.Field.{put, stored}
+use Rattle.fields.specs.Field.{put, stored, write_of as written_in}
 use Rattle.fields.proofs.Laws.{put_sets, put_both, length_put, store_done, store_refused, stored_put}
 use Rattle.layout.specs.Layout.{size, numbers_at}
 use Rattle.layout.proofs.Theorems.{length_numbers}
 use Rattle.version_section.specs.Section.{section_of}
 use Rattle.version_section.proofs.Laws.{section_there, section_past}
+use Rattle.version_section.specs.Answers.{entries_of}
 use Rattle.version_section.specs.declared.CountEntries.{CountEntries}
-use Rattle.version_section.specs.declared.CountEntries.TheVariants.{Whole, Cut, Refused}
-use Rattle.version_record.specs.Record.{layout, onward_at_of, write_out}
+use Rattle.version_section.specs.declared.CountEntries.TheVariants.{Whole, Cut}
+use Rattle.version_record.specs.Record.{layout, onward_at_of, write_of, write_out}
 use Rattle.version_record.specs.declared.VersionRecord.{VersionRecord}
 use Rattle.version_record.specs.declared.Onward.{Onward}
 use Rattle.version_record.specs.declared.Onward.TheVariants.{Next, Last, Bad}
 use Rattle.version_record.proofs.Laws.{onward_there, set_put}
-use Rattle.version_list.specs.List.{row_at, Entries, ended, stopped, entry, follow, entries_from, flat, counted_of, out_of, record_limit, opened, list_of, list_out}
+use Rattle.version_list.specs.List.{row_at, Entries, ended, stopped, entry, follow, entries_from, flat, total_of, counted_of, out_of, record_limit, opened, list_of, list_out}
 use Rattle.version_list.specs.Place.{place_after}
 
 pub not_next : {n : ℕ} → Bad ≡ Next n → ⊥
@@ -75,6 +77,36 @@ module _ (k : VersionRecord) (big : Bool) (s : List ℕ) where
     pub count_bad : 0 < n → Bad ≡ onward_at_of k big s at
         → (length (entries_from k big s n at).rows ≡ 0) × ((entries_from k big s n at).whole ≡ false)
     count_bad h e = (ap (λ (w : Entries). length w.rows) (with_bad h e), ap (λ (w : Entries). w.whole) (with_bad h e))
+
+  -- what is known of a list when `i` of its entries were passed, and the next is at `place`
+  pub record Passed (n at i place : ℕ) : Type 0 where
+    pub count : length (entries_from k big s n at).rows ≡ i + length (entries_from k big s (n - i) place).rows
+    pub end : (entries_from k big s n at).whole ≡ (entries_from k big s (n - i) place).whole
+
+  pub passed_none : (n at : ℕ) → Passed n at 0 at
+  passed_none n at = let e : n - 0 ≡ n = omega arith in record { count = rw e (omega arith); end = rw e refl }
+
+  module _ {n at i place : ℕ} (v : Passed n at i place) (h : i < n) where
+    pub passed_next : {m : ℕ} → Next m ≡ onward_at_of k big s place → Passed n at (i + 1) (place + m)
+    passed_next {m} e =
+        let q = count_next (n - i) place (omega arith) e in
+        let d : n - i - 1 ≡ n - (i + 1) = omega arith in
+        record { count = v.count ∙ rw (q.0, d) (omega arith); end = v.end ∙ rw (q.1, d) refl }
+
+    pub total_last : Last ≡ onward_at_of k big s place → Whole (i + 1) ≡ total_of (entries_from k big s n at)
+    total_last e = let q = count_last (n - i) place (omega arith) e in rw (v.end, q.1, v.count, q.0) refl
+
+    pub total_bad : Bad ≡ onward_at_of k big s place → Cut i ≡ total_of (entries_from k big s n at)
+    total_bad e =
+        let q = count_bad (n - i) place (omega arith) e in
+        let z : i + 0 ≡ i = omega arith in
+        rw (v.end, q.1, v.count, q.0, z) refl
+
+  pub total_all : {n at i place : ℕ} → Passed n at i place → i ≡ n → Whole n ≡ total_of (entries_from k big s n at)
+  total_all {n} {at} {i} {place} v h =
+      let q = count_none (n - i) place (omega arith) in
+      let z : i + 0 ≡ n = omega arith in
+      rw (v.end, q.1, v.count, q.0, z) refl
 
   -- an entry that has a next is a whole record
   pub next_there : (at : ℕ) {m : ℕ} → Next m ≡ onward_at_of k big s at → at + size (layout k) ≤ length s
@@ -154,6 +186,14 @@ pub more : (n c : ℕ) → 0 < n → c + (n - 1) * c ≡ n * c
 more zero c h = absurd (not-suc-le-zero h)
 more (suc n) c h = let p : suc n - 1 ≡ n = omega arith in rw p (omega arith)
 
+entries_by : (b : Bool) (n : ℕ) → entries_of (pick b (Whole n) (Cut n)) ≡ n
+entries_by true n = refl
+entries_by false n = refl
+
+-- the number in the count of a list is that of its entries
+pub entries_total : (w : Entries) {x : CountEntries} {n : ℕ} → x ≡ total_of w → n ≡ entries_of x → n ≡ length w.rows
+entries_total w e f = f ∙ ap entries_of e ∙ entries_by w.whole (length w.rows)
+
 -- the rows that the second pass follows are those that the first counted
 module _ (k : VersionRecord) (big : Bool) (s : List ℕ) (n at : ℕ) {entries : ℕ} (e : entries ≡ length (entries_from k big s n at).rows)
   where
@@ -170,6 +210,14 @@ product a c h r = mul-le-mul h r
 pub rows_room : (k : VersionRecord) (big : Bool) (s : List ℕ) (n at entries fields : ℕ) → entries ≡ length (entries_from k big s n at).rows
     → fields ≡ length (layout k) → entries * (fields + 1) ≡ length (flat (entries_from k big s n at).rows)
 rows_room k big s n at entries fields e f = rw (e, f, add-one (length (layout k))) (sym (length_flat k big s n at))
+
+-- the numbers of a record that is whole have room after its place
+pub row_room : (k : VersionRecord) (s : List ℕ) (at : ℕ) (o : List ℕ) (base : ℕ) → at + size (layout k) ≤ length s
+    → base + suc (length (layout k)) ≤ length o → write_of k s at (set o base at) (base + 1) ≡ Ok tt
+unfolding write_of written_in
+row_room k s at o base h r =
+    let l : length (set o base at) ≡ length o = length-set o base at in
+    rw (le-leb (at + size (layout k)) (length s) h, l, le-leb (base + 1 + length (layout k)) (length o) (omega arith)) refl
 
 -- Writing rows one after the other.
 module _ (k : VersionRecord) (big : Bool) (s : List ℕ) where
@@ -208,7 +256,7 @@ module _ (k : VersionRecord) (big : Bool) (s : List ℕ) where
 
 -- What a door on a section's bytes answers and leaves: a law for each way that it comes about.
 module _ (w : Entries) (o : List ℕ) where
-  pub counted_full : {q : Refusal} → length o < length (flat w.rows) → q ≡ refuse_of room → (Refused q ≡ counted_of w o) × (o ≡ out_of w o)
+  pub counted_full : {q : Refusal} → length o < length (flat w.rows) → q ≡ refuse_of room → (Err q ≡ counted_of w o) × (o ≡ out_of w o)
   unfolding counted_of out_of
   counted_full h e = (
     must_off _ _ _ _ (lt-leb (length (flat w.rows)) (length o) h) e,
@@ -216,34 +264,25 @@ module _ (w : Entries) (o : List ℕ) where
         (omega arith) e).1,
   )
 
-  counted_done : {x : CountEntries} {l : List ℕ} → length (flat w.rows) ≤ length o
-      → x ≡ pick w.whole (Whole (length w.rows)) (Cut (length w.rows)) → l ≡ put o 0 (flat w.rows)
-      → (x ≡ counted_of w o) × (l ≡ out_of w o)
+  pub counted_done : {x : CountEntries} {l : List ℕ} → length (flat w.rows) ≤ length o → x ≡ total_of w → l ≡ put o 0 (flat w.rows)
+      → (Ok x ≡ counted_of w o) × (l ≡ out_of w o)
   unfolding counted_of out_of
   counted_done h e f = (
-    must_on _ _ _ _ (le-leb (length (flat w.rows)) (length o) h) e,
+    must_on _ _ _ _ (le-leb (length (flat w.rows)) (length o) h) (ap Ok e),
     (store_done (length (flat w.rows)) o 0 (flat w.rows) refl
         (omega arith) f).1,
   )
 
-  module _ {n : ℕ} {b : Bool} {l : List ℕ} (m : n ≡ length w.rows) (v : b ≡ w.whole) (h : length (flat w.rows) ≤ length o)
-      (f : l ≡ put o 0 (flat w.rows)) where
-    pub counted_whole : b ≡ true → (Whole n ≡ counted_of w o) × (l ≡ out_of w o)
-    counted_whole t = counted_done h (rw (← v, t, m)) f
-
-    pub counted_cut : b ≡ false → (Cut n ≡ counted_of w o) × (l ≡ out_of w o)
-    counted_cut t = counted_done h (rw (← v, t, m)) f
-
 -- The checks of a door: a law for each way that its answer and what it leaves come about.
 module _ (k : VersionRecord) (big : Bool) (file : List ℕ) (start len stated at : ℕ) (o : List ℕ) where
   pub long_file : {q : Refusal} → file_limit < length file → q ≡ refuse_of limit
-      → (Refused q ≡ list_of k big file start len stated at o) × (o ≡ list_out k big file start len stated at o)
+      → (Err q ≡ list_of k big file start len stated at o) × (o ≡ list_out k big file start len stated at o)
   unfolding list_of list_out opened
   long_file h e = (must_off _ _ _ _ (lt-leb (length file) file_limit h) e, must_off (λ r. o) _ _ _ (lt-leb (length file) file_limit h) e)
 
   module _ (l : length file ≤ file_limit) where
     pub many_stated : {q : Refusal} → record_limit < stated → q ≡ refuse_of limit
-        → (Refused q ≡ list_of k big file start len stated at o) × (o ≡ list_out k big file start len stated at o)
+        → (Err q ≡ list_of k big file start len stated at o) × (o ≡ list_out k big file start len stated at o)
     unfolding list_of list_out opened
     many_stated h e =
         let f = le-leb (length file) file_limit l in
@@ -252,7 +291,7 @@ module _ (k : VersionRecord) (big : Bool) (file : List ℕ) (start len stated at
 
     module _ (m : stated ≤ record_limit) where
       pub past_file_lem : {q : Refusal} → leb (start + len) (length file) ≡ false → q ≡ cut_of (start + len)
-          → (Refused q ≡ list_of k big file start len stated at o) × (o ≡ list_out k big file start len stated at o)
+          → (Err q ≡ list_of k big file start len stated at o) × (o ≡ list_out k big file start len stated at o)
       unfolding list_of list_out opened
       past_file_lem h e =
           let f = le-leb (length file) file_limit l in
@@ -262,7 +301,7 @@ module _ (k : VersionRecord) (big : Bool) (file : List ℕ) (start len stated at
                 (must_on _ _ _ _ n (section_past file start len (λ r. o) _ h e)),
           )
 
-      pub in_file_lem : {x : CountEntries} {r : List ℕ} → leb (start + len) (length file) ≡ true →
+      pub in_file_lem : {x : Result CountEntries Refusal} {r : List ℕ} → leb (start + len) (length file) ≡ true →
           (x ≡ counted_of (entries_from k big (section_of file start len) stated at) o) ×
           (r ≡ out_of (entries_from k big (section_of file start len) stated at) o) → (x ≡ list_of k big file start len stated at o) ×
           (r ≡ list_out k big file start len stated at o)

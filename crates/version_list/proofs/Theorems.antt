@@ -1,16 +1,17 @@
 -- What is proved of a list of version records, for every input. That it ends is that `entries_from` goes down the stated count.
 -- Assumes nothing.
+use Rattle.std.specs.Prelude.{Result, Ok, Err}
 use mathlib.Core.Path.{◌≡◌, refl, sym, ap, ◌∙◌}
 use mathlib.Core.List.{List, [], ◌∷◌, ◌++◌}
 use mathlib.Core.Logic.{⊎_elim}
-use mathlib.Core.Bool.{Bool, true, false, not}
+use mathlib.Core.Bool.{Bool, true, not}
 use Prim.Native.Nat.{ℕ, zero, suc, ◌+◌, ◌≤◌, ◌<◌}
 use native.Mathlib.Omega.{arith}
 use lib.ListN.{length, get_or, take, drop, length-take, length-drop}
 use lib.Seq.{drop_at}
 use borrow.Author.Tests.{le-leb, lt-leb}
 use Rattle.answer.specs.Answer.{refuse_of, cut_of, limit}
-use Rattle.answer.specs.Test.{pick, file_limit}
+use Rattle.answer.specs.Test.{file_limit}
 use Rattle.answer.specs.declared.Refusal.{Refusal}
 use Rattle.answer.proofs.Laws.{must_on}
 use Rattle.answer.proofs.Unique.{same_both}
@@ -20,7 +21,6 @@ use Rattle.fields.proofs.Theorems.{stored_refused}
 use Rattle.layout.specs.Layout.{size}
 use Rattle.version_section.specs.Section.{section_of, in_file}
 use Rattle.version_section.specs.declared.CountEntries.{CountEntries}
-use Rattle.version_section.specs.declared.CountEntries.TheVariants.{Whole, Cut, Refused}
 use Rattle.version_section.proofs.Order.{Mirrored, numbers_mirrored}
 use Rattle.version_record.specs.Record.{layout, aux_inside, onward_at_of}
 use Rattle.version_record.specs.declared.VersionRecord.{VersionRecord}
@@ -28,7 +28,7 @@ use Rattle.version_record.specs.declared.Onward.{Onward}
 use Rattle.version_record.specs.declared.Onward.TheVariants.{Next, Last, Bad}
 use Rattle.version_record.proofs.Laws.{onward_aux}
 use Rattle.version_record.proofs.Theorems.{onward_mirrored}
-use Rattle.version_list.specs.List.{row_at, Entries, ended, entry, follow, entries_from, flat, counted_of, out_of, record_limit, opened, list_of, list_out}
+use Rattle.version_list.specs.List.{row_at, Entries, ended, entry, follow, entries_from, flat, total_of, counted_of, out_of, record_limit, opened, list_of, list_out}
 use Rattle.version_list.proofs.Laws.{not_next, not_last, few, entries_all, next_there, last_there, counted_full, long_file, many_stated, past_file_lem, in_file_lem}
 
 -- A list has at most as many entries as are stated.
@@ -102,24 +102,23 @@ pub entries_in_front : (w : Entries) (o : List ℕ) → length (flat w.rows) ≤
 unfolding out_of
 entries_in_front w o h = stored_put (length (flat w.rows)) o 0 (flat w.rows) refl (omega arith) refl ∙ put_front o (flat w.rows)
 
-not_refused : (w : Entries) (b : Bool) {q : Refusal} → pick b (Whole (length w.rows)) (Cut (length w.rows)) ≡ Refused q → ⊥
-not_refused w true e = let z : ◌≡◌ {A = ℕ} 0 1 = cc in omega arith
-not_refused w false e = let z : ◌≡◌ {A = ℕ} 0 1 = cc in omega arith
+not_refused : {x : CountEntries} {q : Refusal} → Ok x ≡ Err q → ⊥
+not_refused e = let z : ◌≡◌ {A = ℕ} 0 1 = cc in omega arith
 
-counted_refused : (w : Entries) (o : List ℕ) {q : Refusal} → counted_of w o ≡ Refused q → out_of w o ≡ o
+counted_refused : (w : Entries) (o : List ℕ) {q : Refusal} → counted_of w o ≡ Err q → out_of w o ≡ o
 unfolding counted_of
 counted_refused w o e =
     ⊎_elim
     (λ h.
-    let c : pick w.whole (Whole (length w.rows)) (Cut (length w.rows)) ≡ counted_of w o = must_on _ _ _ _
+    let c : Ok (total_of w) ≡ counted_of w o = must_on _ _ _ _
     (le-leb (length (flat w.rows)) (length o) h) refl in
-    absurd (not_refused w w.whole (c ∙ e)))
+    absurd (not_refused (c ∙ e)))
     (λ h. sym (counted_full w o h refl).1)
     (le_or_lt (length (flat w.rows)) (length o))
 
 module _ (k : VersionRecord) (big : Bool) (file : List ℕ) (start len stated at : ℕ) (o : List ℕ) where
   -- A refusal leaves the caller's list as it was.
-  pub refused_leaves : {q : Refusal} → list_of k big file start len stated at o ≡ Refused q → list_out k big file start len stated at o ≡ o
+  pub refused_leaves : {q : Refusal} → list_of k big file start len stated at o ≡ Err q → list_out k big file start len stated at o ≡ o
   refused_leaves e =
       ⊎_elim
       (λ l.
@@ -137,18 +136,18 @@ module _ (k : VersionRecord) (big : Bool) (file : List ℕ) (start len stated at
       (le_or_lt (length file) file_limit)
 
   -- More than 65,535 records stated is 3, before the section is looked at, however long the file is.
-  pub too_many : record_limit < stated → Refused (refuse_of limit) ≡ list_of k big file start len stated at o
+  pub too_many : record_limit < stated → Err (refuse_of limit) ≡ list_of k big file start len stated at o
   too_many m =
       ⊎_elim (λ l. (many_stated k big file start len stated at o l m refl).0) (λ l. (long_file k big file start len stated at o l refl).0)
       (le_or_lt (length file) file_limit)
 
   -- A section that reaches past the file is refused at its end.
   pub past_refused : length file ≤ file_limit → stated ≤ record_limit → length file < start + len
-      → Refused (cut_of (start + len)) ≡ list_of k big file start len stated at o
+      → Err (cut_of (start + len)) ≡ list_of k big file start len stated at o
   past_refused l m h = (past_file_lem k big file start len stated at o l m (lt-leb (start + len) (length file) h) refl).0
 
   -- Two answers that meet the promise are equal, and so are the lists that they leave.
-  pub list_unique : {r q : CountEntries} {l m : List ℕ}
+  pub list_unique : {r q : Result CountEntries Refusal} {l m : List ℕ}
       → (r ≡ list_of k big file start len stated at o) × (l ≡ list_out k big file start len stated at o)
       → (q ≡ list_of k big file start len stated at o) × (m ≡ list_out k big file start len stated at o) → (r ≡ q) × (l ≡ m)
   list_unique = same_both

@@ -1,6 +1,6 @@
 -- The entries of a list of version records, and what a door on one answers and leaves.
 -- Assumes nothing.
-use Rattle.std.specs.Prelude.{ℕ, zero, suc, ◌+◌, List, [], ◌∷◌, ◌++◌, Bool, true, false, length, leb}
+use Rattle.std.specs.Prelude.{Result, Ok, Err, ℕ, zero, suc, ◌+◌, List, [], ◌∷◌, ◌++◌, Bool, true, false, length, leb}
 use Rattle.answer.specs.Answer.{limit, room}
 use Rattle.answer.specs.Test.{pick, must, in_limit}
 use Rattle.answer.specs.declared.Refusal.{Refusal}
@@ -8,7 +8,7 @@ use Rattle.fields.specs.Field.{stored}
 use Rattle.layout.specs.Layout.{numbers_at}
 use Rattle.version_section.specs.Section.{section_of, in_file}
 use Rattle.version_section.specs.declared.CountEntries.{CountEntries}
-use Rattle.version_section.specs.declared.CountEntries.TheVariants.{Whole, Cut, Refused}
+use Rattle.version_section.specs.declared.CountEntries.TheVariants.{Whole, Cut}
 use Rattle.version_record.specs.Record.{layout, onward_at_of}
 use Rattle.version_record.specs.declared.VersionRecord.{VersionRecord}
 use Rattle.version_record.specs.declared.Onward.{Onward}
@@ -48,10 +48,13 @@ abbrev pub flat : List (List ℕ) → List ℕ
 flat [] = []
 flat (r ∷ rs) = r ++ flat rs
 
+-- 14.15: the number of the entries, and whether the list ended with them or stopped at bad bytes
+abbrev pub total_of : Entries → CountEntries
+total_of w = pick w.whole (Whole (length w.rows)) (Cut (length w.rows))
+
 -- 14.15, 14.18: the number of the entries, with 1 where the list stopped at bad bytes; where the rows do not fit, 13 comes before that
-unfoldable pub counted_of : Entries → List ℕ → CountEntries
-counted_of w o =
-    must Refused (leb (length (flat w.rows)) (length o)) room (pick w.whole (Whole (length w.rows)) (Cut (length w.rows)))
+unfoldable pub counted_of : Entries → List ℕ → Result CountEntries Refusal
+counted_of w o = must Err (leb (length (flat w.rows)) (length o)) room (Ok (total_of w))
 
 -- 14.17, 14.18: the rows from the front, the rest as it was; nothing is written where they do not fit
 unfoldable pub out_of : Entries → List ℕ → List ℕ
@@ -71,8 +74,8 @@ opened refused found k big file start len stated at =
     (found (entries_from k big (section_of file start len) stated at))))
 
 -- 14.8 to 14.18, 14.21: what a door answers
-unfoldable pub list_of : VersionRecord → Bool → List ℕ → ℕ → ℕ → ℕ → ℕ → List ℕ → CountEntries
-list_of k big file start len stated at o = opened Refused (λ w. counted_of w o) k big file start len stated at
+unfoldable pub list_of : VersionRecord → Bool → List ℕ → ℕ → ℕ → ℕ → ℕ → List ℕ → Result CountEntries Refusal
+list_of k big file start len stated at o = opened Err (λ w. counted_of w o) k big file start len stated at
 
 -- 2.3, 14.17, 14.18, 14.21: what the caller's list `o` is then
 unfoldable pub list_out : VersionRecord → Bool → List ℕ → ℕ → ℕ → ℕ → ℕ → List ℕ → List ℕ

@@ -2,26 +2,20 @@
 // its fields in the document's order. A list is followed twice: once to see how many records it has, and once to write them.
 #![tactic(auto)]
 
-ghost use Rattle.std.specs.Prelude.{◌≡◌, ◌+◌, ◌*◌, ◌≤◌, suc, length};
+ghost use Rattle.std.specs.Prelude.{◌≡◌, ◌+◌, ◌*◌, ◌≤◌, suc, length, Ok};
 ghost use Rattle.answer.specs.Test.{file_limit};
 ghost use Rattle.fields.specs.Field.{put};
 ghost use Rattle.layout.specs.Layout.{size};
 ghost use Rattle.version_record.specs.Record.{layout, onward_at_of};
-ghost use Rattle.version_list.specs.List.{row_at, entries_from, flat, counted_of, out_of, list_of, list_out};
+ghost use Rattle.version_list.specs.List.{row_at, entries_from, flat, total_of, counted_of, out_of, list_of, list_out};
 ghost use Rattle.version_list.specs.Place.{place_after};
 
-use answer::Reason;
+use answer::{Reason, Refusal};
 use version_record::{Onward, VersionRecord};
 use version_section::CountEntries;
 
 // How many records a list may state.
 pub const RECORD_LIMIT: usize = 65535;
-
-#[derive(Clone, Copy)]
-struct Extent {
-    entries: usize,
-    whole: bool,
-}
 
 // The records from `at` of the section of `len` bytes from `start`, at most `stated` of them.
 pub fn list(
@@ -33,21 +27,15 @@ pub fn list(
     big: bool,
     kind: VersionRecord,
     out: &mut [u32],
-) -> CountEntries
+) -> Result<CountEntries, Refusal>
     ensures { (result ≡ list_of kind big file.now start len stated at out.old)
         × (out.new ≡ list_out kind big file.now start len stated at out.old) }
 {
-    if answer::FILE_LIMIT < file.len() {
-        return CountEntries::Refused(answer::refuse(Reason::Limit));
+    if answer::FILE_LIMIT < file.len() || RECORD_LIMIT < stated {
+        return Err(Reason::Limit.into());
     }
-    if RECORD_LIMIT < stated {
-        return CountEntries::Refused(answer::refuse(Reason::Limit));
-    }
-    if fields::fits(file.len(), start, len) {
-        let end = start + len;
-        return list_in(&file[start..end], stated, at, big, kind, out);
-    }
-    CountEntries::Refused(answer::cut(start, len))
+    let section = version_section::section(file, start, len)?;
+    list_in(section, stated, at, big, kind, out)
 }
 
 fn list_in(
@@ -57,86 +45,75 @@ fn list_in(
     big: bool,
     kind: VersionRecord,
     out: &mut [u32],
-) -> CountEntries
+) -> Result<CountEntries, Refusal>
     requires { (length section.now ≤ file_limit) × (stated ≤ 65535) }
     ensures { (result ≡ counted_of (entries_from kind big section.now stated at) out.old)
         × (out.new ≡ out_of (entries_from kind big section.now stated at) out.old) }
 {
-    let found = measure(section, stated, at, big, kind);
-    let entries = found.entries;
+    let count = measure(section, stated, at, big, kind);
+    let entries = count.entries();
     let columns = version_record::fields_of(kind) + 1;
     if out.len() < entries * columns {
-        return CountEntries::Refused(answer::refuse(Reason::Room));
+        return Err(Reason::Room.into());
     }
-    fill(section, entries, at, big, kind, out);
-    if found.whole {
-        return CountEntries::Whole(entries);
-    }
-    CountEntries::Cut(entries)
+    fill(section, entries, at, big, kind, out)?;
+    Ok(count)
 }
 
 // How many records there are, and whether the list ends with them or stops at bytes that are none.
-fn measure(section: &[u8], stated: usize, at: usize, big: bool, kind: VersionRecord) -> Extent
+fn measure(section: &[u8], stated: usize, at: usize, big: bool, kind: VersionRecord) -> CountEntries
     requires { length section.now ≤ file_limit }
-    ensures { (result.entries ≡ length (entries_from kind big section.now stated at).rows)
-        × (result.whole ≡ (entries_from kind big section.now stated at).whole) }
+    ensures { result ≡ total_of (entries_from kind big section.now stated at) }
 {
-    let mut left = stated;
-    let mut entries: usize = 0;
     let mut place = at;
-    while 0 < left {
+    for entries in 0..stated {
         match version_record::onward_at(section, place, big, kind) {
-            Onward::Next(n) => {
-                place += n as usize;
-            }
-            Onward::Last => {
-                return Extent {
-                    entries: entries + 1,
-                    whole: true,
-                };
-            }
-            Onward::Bad => {
-                return Extent {
-                    entries,
-                    whole: false,
-                };
-            }
+            Onward::Next(n) => place += n as usize,
+            Onward::Last => return CountEntries::Whole(entries + 1),
+            Onward::Bad => return CountEntries::Cut(entries),
         }
-        entries += 1;
-        left -= 1;
     }
-    Extent {
-        entries,
-        whole: true,
-    }
+    CountEntries::Whole(stated)
 }
 
-// Writes the rows of a list that has as many records as it states.
-fn fill(section: &[u8], entries: usize, at: usize, big: bool, kind: VersionRecord, out: &mut [u32])
+// Writes the rows of a list that has as many records as it states. Each record is whole, and there is room: it is not refused.
+fn fill(
+    section: &[u8],
+    entries: usize,
+    at: usize,
+    big: bool,
+    kind: VersionRecord,
+    out: &mut [u32],
+) -> Result<(), Refusal>
     requires { (length section.now ≤ file_limit) × (length (entries_from kind big section.now entries at).rows ≡ entries)
         × (entries * suc (length (layout kind)) ≤ length out.old) }
-    ensures { out.new ≡ put out.old 0 (flat (entries_from kind big section.now entries at).rows) }
+    ensures { (result ≡ Ok tt) × (out.new ≡ put out.old 0 (flat (entries_from kind big section.now entries at).rows)) }
 {
     let columns = version_record::fields_of(kind) + 1;
-    let mut left = entries;
     let mut place = at;
-    let mut base: usize = 0;
-    while 0 < left {
-        put_row(section, place, big, kind, out, base);
+    let mut base = 0;
+    for _ in 0..entries {
+        put_row(section, place, big, kind, out, base)?;
         place = place_after(section, place, big, kind);
         base += columns;
-        left -= 1;
     }
+    Ok(())
 }
 
-fn put_row(section: &[u8], at: usize, big: bool, kind: VersionRecord, out: &mut [u32], base: usize)
+fn put_row(
+    section: &[u8],
+    at: usize,
+    big: bool,
+    kind: VersionRecord,
+    out: &mut [u32],
+    base: usize,
+) -> Result<(), Refusal>
     requires { (length section.now ≤ file_limit) × (at + size (layout kind) ≤ length section.now)
         × (base + suc (length (layout kind)) ≤ length out.old) }
-    ensures { out.new ≡ put out.old base (row_at kind big section.now at) }
+    ensures { (result ≡ Ok tt) × (out.new ≡ put out.old base (row_at kind big section.now at)) }
 {
     out[base] = at as u32;
-    // The record is whole and there is room for its numbers, so this is not refused.
-    version_record::write(section, at, big, kind, out, base + 1);
+    version_record::write(section, at, big, kind, out, base + 1)
 }
 
 // Where the record after the one at `at` is, or `at` where there is none.
@@ -145,8 +122,7 @@ fn place_after(section: &[u8], at: usize, big: bool, kind: VersionRecord) -> usi
     ensures { result ≡ place_after at (onward_at_of kind big section.now at) }
 {
     match version_record::onward_at(section, at, big, kind) {
-        Onward::Next(n) => at + (n as usize),
-        Onward::Last => at,
-        Onward::Bad => at,
+        Onward::Next(n) => at + n as usize,
+        Onward::Last | Onward::Bad => at,
     }
 }

@@ -1,5 +1,6 @@
 -- The definitions on small inputs, by computation.
 -- Assumes nothing.
+use Rattle.std.specs.Prelude.{Err}
 use mathlib.Core.Path.{◌≡◌, refl}
 use mathlib.Core.List.{List, [], ◌∷◌, ◌++◌}
 use mathlib.Core.Bool.{true, false}
@@ -8,7 +9,6 @@ use lib.ListN.{replicate}
 use Rattle.answer.specs.Answer.{refuse_of, cut_of, short, room}
 use Rattle.fields.specs.Number.{number_at}
 use Rattle.fields.specs.Field.{put, stored, write_of as written_in}
-use Rattle.fields.specs.declared.WriteBytes.TheVariants.{Refused}
 use Rattle.layout.specs.Layout.{size, read_by, numbers_at}
 use Rattle.version_record.specs.Record.{layout, aux_inside, onward_at_of, write_of, write_out}
 use Rattle.version_record.specs.declared.VersionRecord.TheVariants.{Verdef, Verdaux, Verneed, Vernaux}
@@ -80,11 +80,11 @@ numbers_of_a_need : write_out Verneed false (need 15 5) 0 (7 ∷ 7 ∷ 7 ∷ 7 �
 unfolding computed
 numbers_of_a_need = refl
 
-no_room : write_of Verneed (need 15 5) 0 (7 ∷ 7 ∷ 7 ∷ 7 ∷ 7 ∷ []) 1 ≡ Refused (refuse_of room)
+no_room : write_of Verneed (need 15 5) 0 (7 ∷ 7 ∷ 7 ∷ 7 ∷ 7 ∷ []) 1 ≡ Err (refuse_of room)
 unfolding computed
 no_room = refl
 
 -- 1 comes before 13
-no_record_and_no_room : write_of Verneed [] 0 [] 0 ≡ Refused (refuse_of short)
+no_record_and_no_room : write_of Verneed [] 0 [] 0 ≡ Err (refuse_of short)
 unfolding computed
 no_record_and_no_room = refl

@@ -1,5 +1,6 @@
 -- The laws of the four records that proofs cite.
 -- Assumes nothing.
+use Rattle.std.specs.Prelude.{Ok, Err}
 use mathlib.Core.Path.{◌≡◌, refl, sym, ◌∙◌}
 use mathlib.Core.List.{List, [], ◌∷◌}
 use mathlib.Core.Logic.{◌⊎◌, inl, inr, ⊎_elim}
@@ -17,7 +18,6 @@ use Rattle.answer.specs.Test.{pick}
 use Rattle.answer.specs.declared.Refusal.{Refusal}
 use Rattle.fields.specs.Number.{number_at}
 use Rattle.fields.specs.Field.{put}
-use Rattle.fields.specs.declared.WriteBytes.TheVariants.{Done, Refused}
 use Rattle.fields.proofs.Laws.{le_or_lt, put_sets, put_both, store_done, store_refused}
 use Rattle.layout.specs.Layout.{size, read_by, numbers_at}
 use Rattle.layout.proofs.Laws.{read_full}
@@ -97,11 +97,6 @@ module _ (big : Bool) (s : List ℕ) (at : ℕ) where
   pub aux_of_need : get_or (numbers_at big (layout Verneed) s at) 3 0 ≡ number_at big 4 s (at + 8)
   aux_of_need = number_at_lem big (layout Verneed) s at 3 (omega arith)
 
--- a number of two or four bytes that has not two
-pub four : {w : ℕ} → (w ≡ 2) ⊎ (w ≡ 4) → (w ≡ 2 → ⊥) → w ≡ 4
-four (inl e) n = absurd (n e)
-four (inr e) n = e
-
 -- the test of a place, as the code makes it
 pub shifted : (n at len : ℕ) → at ≤ len → ltb n (len - at) ≡ ltb (at + n) len
 shifted n at len h =
@@ -109,6 +104,14 @@ shifted n at len h =
     (λ (l : len ≤ at + n). rw (le-ltb (at + n) len l, le-ltb n (len - at) (omega arith)))
     (λ (l : at + n < len). rw (lt-ltb (at + n) len l, lt-ltb n (len - at) (omega arith)))
     (le_or_lt len (at + n))
+
+-- a field of a record that is whole, as the code reads it
+pub field_inside : (k : VersionRecord) (s : List ℕ) (at i : ℕ) {ws : List ℕ} → leb (at + size (layout k)) (length s) ≡ true
+    → ws ≡ layout k → i < length ws → at + size (take i (layout k)) + get_or ws i 0 ≤ length s
+field_inside k s at i t e h =
+    let w = leb-true (at + size (layout k)) (length s) t in
+    let l : i < length (layout k) = rw e at h in
+    rw e (omega (arith, size_part (layout k) i l))
 
 -- the test that a record is whole, as the code makes it
 module _ (k : VersionRecord) (s : List ℕ) (at n : ℕ) (e : n ≡ size (layout k)) where
@@ -173,7 +176,7 @@ put_next o l ns base i x e q h r f =
 -- Writing a record's numbers: a law for each way that it comes about.
 module _ (k : VersionRecord) (big : Bool) (s : List ℕ) (at : ℕ) (o : List ℕ) (base : ℕ) where
   pub write_short : {q : Refusal} → whole_at k s at ≡ false → q ≡ cut_of (at + size (layout k))
-      → (Refused q ≡ write_of k s at o base) × (o ≡ write_out k big s at o base)
+      → (Err q ≡ write_of k s at o base) × (o ≡ write_out k big s at o base)
   unfolding write_of write_out
   write_short w e = rw (w, e) (refl, refl)
 
@@ -181,14 +184,14 @@ module _ (k : VersionRecord) (big : Bool) (s : List ℕ) (at : ℕ) (o : List �
   numbers_length = length_numbers big (layout k) s at
 
   pub write_full : {q : Refusal} → whole_at k s at ≡ true → length o < base + length (layout k) → q ≡ refuse_of room
-      → (Refused q ≡ write_of k s at o base) × (o ≡ write_out k big s at o base)
+      → (Err q ≡ write_of k s at o base) × (o ≡ write_out k big s at o base)
   unfolding write_of write_out
   write_full w h e =
       let p = store_refused (length (layout k)) o base (numbers_at big (layout k) s at) numbers_length h e in
       rw w p
 
   pub write_done : (n : ℕ) {l : List ℕ} → whole_at k s at ≡ true → base + length (layout k) ≤ length o → length (layout k) ≤ n
-      → l ≡ put o base (take n (numbers_at big (layout k) s at)) → (Done ≡ write_of k s at o base) × (l ≡ write_out k big s at o base)
+      → l ≡ put o base (take n (numbers_at big (layout k) s at)) → ((Ok tt) ≡ write_of k s at o base) × (l ≡ write_out k big s at o base)
   unfolding write_of write_out
   write_done n {l} w h m e =
       let t : take n (numbers_at big (layout k) s at) ≡ numbers_at big (layout k) s at = take_all n (numbers_at big (layout k) s at)

@@ -1,16 +1,17 @@
 -- What is proved of the four version records, for every input.
 -- Assumes nothing.
+use Rattle.std.specs.Prelude.{Result}
+use Rattle.answer.specs.declared.Refusal.{Refusal}
 use mathlib.Core.Path.{◌≡◌, refl, sym}
 use mathlib.Core.List.{List}
 use mathlib.Core.Bool.{Bool, true, not}
-use Prim.Native.Nat.{ℕ, ◌+◌, ◌-◌, ◌≤◌, ◌<◌}
+use Prim.Native.Nat.{ℕ, ◌+◌, ◌≤◌, ◌<◌}
 use native.Mathlib.Omega.{arith}
 use lib.Dec.{T}
 use lib.ListN.{length}
 use borrow.Author.Tests.{le-ltb, eq-eqb}
 use Rattle.answer.specs.Test.{pick}
 use Rattle.answer.proofs.Unique.{same, same_both}
-use Rattle.fields.specs.declared.WriteBytes.{WriteBytes}
 use Rattle.layout.specs.Layout.{placed, the, size, numbers_at}
 use Rattle.version_section.proofs.Order.{Mirrored, read_mirrored}
 use Rattle.version_record.specs.Record.{fields, layout, next, aux_inside, onward_by, onward_at_of, write_of, write_out, fields_of}
@@ -65,7 +66,7 @@ pub onward_at_unique : (k : VersionRecord) (big : Bool) (s : List ℕ) (at : ℕ
     → q ≡ onward_at_of k big s at → r ≡ q
 onward_at_unique k big s at = same
 
-pub write_unique : (k : VersionRecord) (big : Bool) (s : List ℕ) (at : ℕ) (o : List ℕ) (base : ℕ) {r q : WriteBytes} {l m : List ℕ}
+pub write_unique : (k : VersionRecord) (big : Bool) (s : List ℕ) (at : ℕ) (o : List ℕ) (base : ℕ) {r q : Result Unit Refusal} {l m : List ℕ}
     → (r ≡ write_of k s at o base) × (l ≡ write_out k big s at o base) → (q ≡ write_of k s at o base) × (m ≡ write_out k big s at o base)
     → (r ≡ q) × (l ≡ m)
 write_unique k big s at o base = same_both

@@ -1,11 +1,10 @@
 -- The four records of the version sections (LSB Core 5.0, "Symbol Versioning"), and what is at a place of a list of them.
 -- Assumes nothing.
-use Rattle.std.specs.Prelude.{ℕ, ◌+◌, List, [], ◌∷◌, Bool, true, length, leb, ltb, eqb}
+use Rattle.std.specs.Prelude.{Result, Err, ℕ, ◌+◌, List, [], ◌∷◌, Bool, true, length, leb, ltb, eqb}
+use Rattle.answer.specs.declared.Refusal.{Refusal}
 use Rattle.answer.specs.Answer.{cut_of}
 use Rattle.answer.specs.Test.{pick}
 use Rattle.fields.specs.Field.{stored, write_of as written_in}
-use Rattle.fields.specs.declared.WriteBytes.{WriteBytes}
-use Rattle.fields.specs.declared.WriteBytes.TheVariants.{Refused}
 use Rattle.layout.specs.Layout.{Field, field, widths, the, size, reading, numbers_at}
 use Rattle.version_record.specs.declared.VersionRecord.{VersionRecord}
 use Rattle.version_record.specs.declared.VersionRecord.TheVariants.{Verdef, Verdaux, Verneed, Vernaux}
@@ -79,8 +78,8 @@ abbrev pub whole_at : VersionRecord → List ℕ → ℕ → Bool
 whole_at k s at = leb (at + size (layout k)) (length s)
 
 -- 14.20: writing its numbers into a list `o` from `base`: 1 where it is not whole, at its end, then 13 where there is no room
-unfoldable pub write_of : VersionRecord → List ℕ → ℕ → List ℕ → ℕ → WriteBytes
-write_of k s at o base = pick (whole_at k s at) (written_in (length (layout k)) o base) (Refused (cut_of (at + size (layout k))))
+unfoldable pub write_of : VersionRecord → List ℕ → ℕ → List ℕ → ℕ → Result Unit Refusal
+write_of k s at o base = pick (whole_at k s at) (written_in (length (layout k)) o base) (Err (cut_of (at + size (layout k))))
 
 -- 2.3, 14.20: what the list is then
 unfoldable pub write_out : VersionRecord → Bool → List ℕ → ℕ → List ℕ → ℕ → List ℕ

@@ -1,21 +1,21 @@
--- What the answer of a count stands for, how many numbers that is, and how a definition goes on from it.
+-- What the answer of a count stands for, and how many numbers that is.
 -- Assumes nothing.
-use Rattle.std.specs.Prelude.{ℕ, [], ◌∷◌}
+use Rattle.std.specs.Prelude.{Result, Ok, Err, ℕ, [], ◌∷◌}
 use Rattle.answer.specs.Answer.{Answer, accepted, partly, refused}
 use Rattle.answer.specs.declared.Refusal.{Refusal}
 use Rattle.version_section.specs.declared.CountEntries.{CountEntries}
-use Rattle.version_section.specs.declared.CountEntries.TheVariants.{Whole, Cut, Refused}
+use Rattle.version_section.specs.declared.CountEntries.TheVariants.{Whole, Cut}
 
 -- 14.15: entries before bad bytes are the answer 1 with their number, which is no refusal
-abbrev pub answer_count_entries : CountEntries → Answer
-answer_count_entries (Whole n) = accepted (n ∷ [])
-answer_count_entries (Cut n) = partly (n ∷ [])
-answer_count_entries (Refused k) = refused k
+abbrev pub answer_count_entries : Result CountEntries Refusal → Answer
+answer_count_entries (Ok (Whole n)) = accepted (n ∷ [])
+answer_count_entries (Ok (Cut n)) = partly (n ∷ [])
+answer_count_entries (Err k) = refused k
 
 abbrev pub count_count_entries : ℕ
 count_count_entries = 1
 
-abbrev pub on_count_entries : {A : Type 0} → CountEntries → (Refusal → A) → (ℕ → A) → (ℕ → A) → A
-on_count_entries (Whole n) refusal whole cut = whole n
-on_count_entries (Cut n) refusal whole cut = cut n
-on_count_entries (Refused k) refusal whole cut = refusal k
+-- 14.15: how many entries there are, with bad bytes after them or without
+abbrev pub entries_of : CountEntries → ℕ
+entries_of (Whole n) = n
+entries_of (Cut n) = n

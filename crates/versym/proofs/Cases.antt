@@ -1,5 +1,6 @@
 -- The definitions on small inputs, by computation.
 -- Assumes nothing.
+use Rattle.std.specs.Prelude.{Ok, Err}
 use mathlib.Core.Path.{◌≡◌, refl}
 use mathlib.Core.List.{List, [], ◌∷◌}
 use mathlib.Core.Bool.{true, false}
@@ -12,7 +13,6 @@ use Rattle.version_section.specs.Section.{section_of, in_file}
 use Rattle.version_section.specs.Answers.{answer_count_entries}
 use Rattle.version_section.specs.declared.CountEntries.TheVariants as counted
 use Rattle.versym.specs.Versym.{entry, versym_of, count_in_of, get_at_in_of, count_of, get_at_of}
-use Rattle.versym.specs.declared.ReadVersym.TheVariants.{Value, Refused}
 
 -- what the cases compute with
 unfoldable computed : ℕ
@@ -26,34 +26,34 @@ two_bytes = refl
 abbrev file : List ℕ
 file = 9 ∷ 2 ∷ 0 ∷ 0x03 ∷ 0x81 ∷ []
 
-visible : get_at_of false file 1 4 0 ≡ Value (record { hidden = false; version = 2 })
+visible : get_at_of false file 1 4 0 ≡ Ok (record { hidden = false; version = 2 })
 unfolding computed
 visible = refl
 
-hidden : get_at_of false file 1 4 1 ≡ Value (record { hidden = true; version = 0x103 })
+hidden : get_at_of false file 1 4 1 ≡ Ok (record { hidden = true; version = 0x103 })
 unfolding computed
 hidden = refl
 
-other_order : get_at_of true file 1 4 0 ≡ Value (record { hidden = false; version = 512 })
+other_order : get_at_of true file 1 4 0 ≡ Ok (record { hidden = false; version = 512 })
 unfolding computed
 other_order = refl
 
 largest : versym_of 0xFFFF ≡ record { hidden = true; version = 0x7FFF }
 largest = refl
 
-past_the_last : get_at_of false file 1 4 2 ≡ Refused (refuse_of not_found)
+past_the_last : get_at_of false file 1 4 2 ≡ Err (refuse_of not_found)
 unfolding computed
 past_the_last = refl
 
-half_an_entry : get_at_of false file 1 3 1 ≡ Refused (refuse_of not_found)
+half_an_entry : get_at_of false file 1 3 1 ≡ Err (refuse_of not_found)
 unfolding computed
 half_an_entry = refl
 
-all_entries : count_of file 1 4 ≡ counted.Whole 2
+all_entries : count_of file 1 4 ≡ Ok (counted.Whole 2)
 unfolding computed
 all_entries = refl
 
-odd_last_byte : count_of file 0 5 ≡ counted.Cut 2
+odd_last_byte : count_of file 0 5 ≡ Ok (counted.Cut 2)
 unfolding computed
 odd_last_byte = refl
 
@@ -61,15 +61,15 @@ odd_is_one : number (answer_count_entries (count_of file 0 5)) ≡ 1
 unfolding computed
 odd_is_one = refl
 
-nothing_at_the_end : count_of file 5 0 ≡ counted.Whole 0
+nothing_at_the_end : count_of file 5 0 ≡ Ok (counted.Whole 0)
 unfolding computed
 nothing_at_the_end = refl
 
-one_past_the_file : count_of file 1 5 ≡ counted.Refused (refuse_of short)
+one_past_the_file : count_of file 1 5 ≡ Err (refuse_of short)
 unfolding computed
 one_past_the_file = refl
 
 -- the sum of start and size does not wrap
-far_past_the_file : count_of file 1 18446744073709551615 ≡ counted.Refused (refuse_of short)
+far_past_the_file : count_of file 1 18446744073709551615 ≡ Err (refuse_of short)
 unfolding computed
 far_past_the_file = refl

@@ -1,5 +1,8 @@
 -- What is proved of the symbol version table, for every input.
 -- Assumes nothing.
+use Rattle.versym.specs.declared.Versym.{Versym}
+use Rattle.std.specs.Prelude.{Result, Ok, Err, ℕ, List, ◌≡◌}
+use Rattle.answer.specs.declared.Refusal.{Refusal}
 use mathlib.Core.Path.{◌≡◌, refl, ap}
 use mathlib.Core.List.{List, [], ◌∷◌}
 use mathlib.Core.Bool.{Bool, not}
@@ -19,13 +22,10 @@ use Rattle.fields.proofs.Laws.{le_or_lt}
 use Rattle.layout.specs.Layout.{placed, numbers_at}
 use Rattle.layout.proofs.Laws.{full_is}
 use Rattle.version_section.specs.declared.CountEntries.{CountEntries}
-use Rattle.version_section.specs.declared.CountEntries.TheVariants as counted
 use Rattle.version_section.proofs.Laws.{section_past}
 use Rattle.version_section.proofs.Order.{read_mirrored}
 use Rattle.versym.specs.Versym.{fields, entry, versym_of, entries_in, count_in_of, get_at_in_of, count_of, get_at_of}
-use Rattle.versym.specs.Answers.{answer_read_versym, count_read_versym}
-use Rattle.versym.specs.declared.ReadVersym.{ReadVersym}
-use Rattle.versym.specs.declared.ReadVersym.TheVariants.{Value, Refused}
+use Rattle.versym.specs.Answers.{answer_read_versym, count_read_versym, numbers_of}
 
 -- Each field of the table is where the one before it ends.
 pub fields_placed : T (placed 0 fields)
@@ -45,14 +45,14 @@ version_small n = omega arith
 
 -- Each entry below their number lies in the section, and is there.
 pub entry_there : (big : Bool) (s : List ℕ) (index : ℕ) → index < entries_in s
-    → (2 * index + 2 ≤ length s) × (Value (versym_of (number_at big 2 s (2 * index))) ≡ get_at_in_of big s index)
+    → (2 * index + 2 ≤ length s) × (Ok (versym_of (number_at big 2 s (2 * index))) ≡ get_at_in_of big s index)
 unfolding get_at_in_of numbers_at
 entry_there big s index h =
     let i : 2 * index + 2 ≤ length s = omega arith in
     (i, must_on _ _ _ _ (lt-ltb index (entries_in s) h) (full_is big s _ _ entry (2 * index) i refl))
 
 -- At or after their number is 10.
-pub entry_past : (big : Bool) (s : List ℕ) (index : ℕ) → entries_in s ≤ index → Refused (refuse_of not_found) ≡ get_at_in_of big s index
+pub entry_past : (big : Bool) (s : List ℕ) (index : ℕ) → entries_in s ≤ index → Err (refuse_of not_found) ≡ get_at_in_of big s index
 unfolding get_at_in_of
 entry_past big s index h = must_off _ _ _ _ (le-ltb index (entries_in s) h) refl
 
@@ -78,37 +78,41 @@ pub entry_swapped : (big : Bool) (s : List ℕ) (index : ℕ) → get_at_in_of (
 unfolding get_at_in_of
 entry_swapped big s index =
     rw (swapped_length s)
-    (ap (λ (x : ReadVersym). must Refused (ltb index (length s / 2)) not_found x)
+    (ap (λ (x : Result Versym Refusal). must Err (ltb index (length s / 2)) not_found x)
     (read_mirrored _ _ big entry s (swapped s) (2 * index) (swapped_length s) (omega arith) (λ h. (swapped_at s index h, tt))))
 
 -- A file that is too long is 3, whatever the section.
-pub count_long : (file : List ℕ) (start size : ℕ) → file_limit < length file → counted.Refused (refuse_of limit) ≡ count_of file start size
+pub count_long : (file : List ℕ) (start size : ℕ) → file_limit < length file → Err (refuse_of limit) ≡ count_of file start size
 unfolding count_of
 count_long file start size h = must_off _ _ _ _ (lt-leb (length file) file_limit h) refl
 
 -- A section that reaches past the file is refused at its end.
 pub count_past : (file : List ℕ) (start size : ℕ) → length file ≤ file_limit → length file < start + size
-    → counted.Refused (cut_of (start + size)) ≡ count_of file start size
+    → Err (cut_of (start + size)) ≡ count_of file start size
 unfolding count_of
 count_past file start size l h =
     must_on _ _ _ _ (le-leb (length file) file_limit l) (section_past file start size _ _ (lt-leb (start + size) (length file) h) refl)
 
 -- Two answers that meet a promise of this crate are equal.
-pub count_unique : (file : List ℕ) (start size : ℕ) {r q : CountEntries} → r ≡ count_of file start size → q ≡ count_of file start size → r ≡ q
+pub count_unique : (file : List ℕ) (start size : ℕ) {r q : Result CountEntries Refusal} → r ≡ count_of file start size → q ≡ count_of file start size → r ≡ q
 count_unique file start size = same
 
-pub get_at_unique : (file : List ℕ) (start size index : ℕ) (big : Bool) {r q : ReadVersym} → r ≡ get_at_of big file start size index
+pub get_at_unique : (file : List ℕ) (start size index : ℕ) (big : Bool) {r q : Result Versym Refusal} → r ≡ get_at_of big file start size index
     → q ≡ get_at_of big file start size index → r ≡ q
 get_at_unique file start size index big = same
 
 pub count_in_unique : (s : List ℕ) {r q : CountEntries} → r ≡ count_in_of s → q ≡ count_in_of s → r ≡ q
 count_in_unique s = same
 
-pub get_at_in_unique : (s : List ℕ) (index : ℕ) (big : Bool) {r q : ReadVersym} → r ≡ get_at_in_of big s index → q ≡ get_at_in_of big s index
+pub get_at_in_unique : (s : List ℕ) (index : ℕ) (big : Bool) {r q : Result Versym Refusal} → r ≡ get_at_in_of big s index → q ≡ get_at_in_of big s index
     → r ≡ q
 get_at_in_unique s index big = same
 
 -- The answer has as many numbers as it says, zeros where it is refused.
-pub read_versym_count : (a : ReadVersym) → length (values count_read_versym (answer_read_versym a)) ≡ count_read_versym
-read_versym_count (Value e) = refl
-read_versym_count (Refused k) = refl
+pub read_versym_count : (a : Result Versym Refusal) → length (values count_read_versym (answer_read_versym a)) ≡ count_read_versym
+read_versym_count (Ok e) = refl
+read_versym_count (Err k) = refl
+
+-- The numbers that it stands for are fixed.
+pub numbers_unique : (a : Versym) {r q : List ℕ} → r ≡ numbers_of a → q ≡ numbers_of a → r ≡ q
+numbers_unique a = same

@@ -1,6 +1,7 @@
 -- The symbol version table: an entry of 16 bits for each symbol, in the order of the symbols (LSB Core 5.0, "Symbol Version Table").
 -- Assumes nothing.
-use Rattle.std.specs.Prelude.{ℕ, ◌*◌, ◌/◌, ◌%◌, List, [], ◌∷◌, Bool, length, ltb, eqb}
+use Rattle.std.specs.Prelude.{Result, Ok, Err, ℕ, ◌*◌, ◌/◌, ◌%◌, List, [], ◌∷◌, Bool, length, ltb, eqb}
+use Rattle.answer.specs.declared.Refusal.{Refusal}
 use Rattle.answer.specs.Answer.{not_found}
 use Rattle.answer.specs.Test.{pick, must, in_limit}
 use Rattle.layout.specs.Layout.{Field, field, widths, the, size, reading}
@@ -8,8 +9,6 @@ use Rattle.version_section.specs.Section.{section_of, in_file}
 use Rattle.version_section.specs.declared.CountEntries.{CountEntries}
 use Rattle.version_section.specs.declared.CountEntries.TheVariants as counted
 use Rattle.versym.specs.declared.Versym.{Versym}
-use Rattle.versym.specs.declared.ReadVersym.{ReadVersym}
-use Rattle.versym.specs.declared.ReadVersym.TheVariants.{Value, Refused}
 
 -- 4.20: offset, width, name
 abbrev pub fields : List Field
@@ -31,16 +30,16 @@ unfoldable pub count_in_of : List ℕ → CountEntries
 count_in_of s = pick (eqb (length s % size entry) 0) (counted.Whole (entries_in s)) (counted.Cut (entries_in s))
 
 -- 14.3, 14.5, 14.6: the entry at `index`, or 10 at or after their number
-unfoldable pub get_at_in_of : Bool → List ℕ → ℕ → ReadVersym
+unfoldable pub get_at_in_of : Bool → List ℕ → ℕ → Result Versym Refusal
 get_at_in_of big s index =
-    must Refused (ltb index (entries_in s)) not_found
-    (reading Refused big fields s (size entry * index) (λ ns. Value (versym_of (the fields "vs_val" ns))))
+    must Err (ltb index (entries_in s)) not_found
+    (reading Err big fields s (size entry * index) (λ ns. Ok (versym_of (the fields "vs_val" ns))))
 
 -- 14.2, 14.4: of a file: its length (3), then the section (1), then its entries
-unfoldable pub count_of : List ℕ → ℕ → ℕ → CountEntries
-count_of file start size = in_limit counted.Refused file (in_file counted.Refused file start size (count_in_of (section_of file start size)))
+unfoldable pub count_of : List ℕ → ℕ → ℕ → Result CountEntries Refusal
+count_of file start size = in_limit Err file (in_file Err file start size (Ok (count_in_of (section_of file start size))))
 
 -- 14.2, 14.5: the same, then the entry at `index` (10)
-unfoldable pub get_at_of : Bool → List ℕ → ℕ → ℕ → ℕ → ReadVersym
+unfoldable pub get_at_of : Bool → List ℕ → ℕ → ℕ → ℕ → Result Versym Refusal
 get_at_of big file start size index =
-    in_limit Refused file (in_file Refused file start size (get_at_in_of big (section_of file start size) index))
+    in_limit Err file (in_file Err file start size (get_at_in_of big (section_of file start size) index))

@@ -1,55 +1,52 @@
 // The symbol version table (SHT_GNU_versym): for each symbol a number of 16 bits, with the version and whether it is hidden.
 #![tactic(auto)]
 
-ghost use Rattle.std.specs.Prelude.{◌≡◌};
+ghost use Rattle.std.specs.Prelude.{◌≡◌, Err};
+ghost use Rattle.answer.specs.Test.{in_limit};
+ghost use Rattle.version_section.specs.Section.{lent_of};
 ghost use Rattle.versym.specs.Versym.{versym_of, count_in_of, count_of, get_at_in_of, get_at_of};
+ghost use Rattle.versym.specs.Answers.{numbers_of};
 
-use answer::{Reason, Refusal};
-use cursor::{Cursor, NextU16};
+use answer::{Numbers, Reason, Refusal};
+use fields::Unsigned;
 use version_section::CountEntries;
 
 const SIZE: usize = 2;
 
 const HIDDEN: u16 = 0x8000;
 
-#[derive(Clone, Copy)]
+#[derive(Clone, Copy, Debug, PartialEq, Eq)]
 pub struct Versym {
     pub hidden: bool,
     pub version: u16,
 }
 
-#[derive(Clone, Copy)]
-pub enum ReadVersym {
-    Value(Versym),
-    Refused(Refusal),
+impl Numbers<2> for Versym {
+    ghost numbers = { numbers_of };
+
+    fn numbers(self) -> [u64; 2] {
+        [self.hidden.into(), self.version.into()]
+    }
 }
 
 // How many entries the section of `size` bytes from `start` has.
-pub fn count(file: &[u8], start: usize, size: usize) -> CountEntries
+pub fn count(file: &[u8], start: usize, size: usize) -> Result<CountEntries, Refusal>
     ensures { result ≡ count_of file.now start size }
 {
-    if answer::FILE_LIMIT < file.len() {
-        return CountEntries::Refused(answer::refuse(Reason::Limit));
-    }
-    if fields::fits(file.len(), start, size) {
-        let end = start + size;
-        return count_in(&file[start..end]);
-    }
-    CountEntries::Refused(answer::cut(start, size))
+    Ok(count_in(section(file, start, size)?))
 }
 
 // The entry at `index` of that section.
-pub fn get_at(file: &[u8], start: usize, size: usize, index: usize, big: bool) -> ReadVersym
+pub fn get_at(
+    file: &[u8],
+    start: usize,
+    size: usize,
+    index: usize,
+    big: bool,
+) -> Result<Versym, Refusal>
     ensures { result ≡ get_at_of big file.now start size index }
 {
-    if answer::FILE_LIMIT < file.len() {
-        return ReadVersym::Refused(answer::refuse(Reason::Limit));
-    }
-    if fields::fits(file.len(), start, size) {
-        let end = start + size;
-        return get_at_in(&file[start..end], index, big);
-    }
-    ReadVersym::Refused(answer::cut(start, size))
+    get_at_in(section(file, start, size)?, index, big)
 }
 
 // How many entries a section's own bytes have.
@@ -58,22 +55,31 @@ pub fn count_in(section: &[u8]) -> CountEntries
 {
     let entries = section.len() / SIZE;
     if section.len() % SIZE == 0 {
-        return CountEntries::Whole(entries);
+        CountEntries::Whole(entries)
+    } else {
+        CountEntries::Cut(entries)
     }
-    CountEntries::Cut(entries)
 }
 
 // The entry at `index` of a section's own bytes.
-pub fn get_at_in(section: &[u8], index: usize, big: bool) -> ReadVersym
+pub fn get_at_in(section: &[u8], index: usize, big: bool) -> Result<Versym, Refusal>
     ensures { result ≡ get_at_in_of big section.now index }
 {
     if index < section.len() / SIZE {
-        return match Cursor::new(SIZE * index).next_u16(section, big) {
-            NextU16::Value(t) => ReadVersym::Value(versym_of(t.value)),
-            NextU16::Refused(k) => ReadVersym::Refused(k),
-        };
+        let value = u16::read(section, SIZE * index, big)?;
+        return Ok(versym_of(value));
     }
-    ReadVersym::Refused(answer::refuse(Reason::NotFound))
+    Err(Reason::NotFound.into())
+}
+
+// The bytes of a section of a file that is not too long.
+fn section(file: &[u8], start: usize, size: usize) -> Result<&[u8], Refusal>
+    ensures { result ≡ in_limit Err file.now (lent_of file.entry start size) }
+{
+    if answer::FILE_LIMIT < file.len() {
+        return Err(Reason::Limit.into());
+    }
+    version_section::section(file, start, size)
 }
 
 fn versym_of(value: u16) -> Versym

@@ -5,8 +5,9 @@
 ghost use Rattle.std.specs.Prelude.{◌≡◌};
 ghost use Rattle.versym.specs.Versym.{count_in_of, get_at_in_of};
 
+use answer::Refusal;
 use version_section::CountEntries;
-use versym::ReadVersym;
+use versym::Versym;
 
 #[derive(Clone, Copy)]
 pub struct VersymSection<'a> {
@@ -29,7 +30,7 @@ impl<'a> VersymSection<'a> {
     }
 
     // The entry at `index`.
-    pub fn get_at(self, index: usize) -> ReadVersym
+    pub fn get_at(self, index: usize) -> Result<Versym, Refusal>
         ensures { result ≡ get_at_in_of self.entry.big self.entry.bytes.now index }
     {
         versym::get_at_in(self.bytes, index, self.big)
@@ -37,7 +38,7 @@ impl<'a> VersymSection<'a> {
 }
 
 // The entry at `index` of a section's bytes.
-pub fn get_at_of(bytes: &[u8], big: bool, index: usize) -> ReadVersym
+pub fn get_at_of(bytes: &[u8], big: bool, index: usize) -> Result<Versym, Refusal>
     ensures { result ≡ get_at_in_of big bytes.now index }
 {
     new(bytes, big).get_at(index)

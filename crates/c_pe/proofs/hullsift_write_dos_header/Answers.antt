@@ -4,9 +4,7 @@ use Rattle.answer.proofs.Laws.{told_bytes}
 use Rattle.c_pe.proofs.hullsift_write_dos_header.Goals as goal
 
 pub returns-clause-answer : goal.returns-clause-answer
-returns-clause-answer c =
-    (told_bytes answer_write_bytes (rw c.dos_header_of-header.ensures at c.write.ensures) c.write_bytes_number.ensures).0
+returns-clause-answer c = (told_bytes answer_write_bytes (rw c.dos_header_of.ensures at c.write.ensures) c.number.ensures).0
 
 pub returns-clause-lent : goal.returns-clause-lent
-returns-clause-lent c =
-    (told_bytes answer_write_bytes (rw c.dos_header_of-header.ensures at c.write.ensures) c.write_bytes_number.ensures).1
+returns-clause-lent c = (told_bytes answer_write_bytes (rw c.dos_header_of.ensures at c.write.ensures) c.number.ensures).1

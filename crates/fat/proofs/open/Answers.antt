@@ -1,29 +1,21 @@
--- `fat::open` meets its contract. The loop's invariant: the `left` members from `at` on are answered as all of them are, and `at` does not
--- wrap.
--- The measure is what is left.
+-- `fat::open` meets its contract: the first member that is refused is the answer; if there is none, it is the count.
 -- Assumes nothing.
-use native.Mathlib.Omega.{arith}
-use mathlib.Core.Path.{sym, ◌∙◌}
-use Rattle.fat_member.specs.FatArch.{fat_arch}
-use Rattle.fat.proofs.Laws.{members_on, members_stop, members_none, opened_refused, opened_members}
+use Rattle.std.proofs.Common.{◌≡◌, sym, ◌∙◌, ◌+◌, ◌*◌, Err, arith, rules}
+use Rattle.fat.proofs.Laws.{opened_refused, opened_stop, opened_all}
 use Rattle.fat.proofs.open.Goals as goal
 
-pub returns-in-Refused : goal.returns-in-Refused
-returns-in-Refused c = opened_refused _ (sym c.in-Refused.is ∙ c.header.ensures)
+pub returns-in_err-members : goal.returns-in_err-members
+returns-in_err-members c =
+    let k : c.from_residual.result ≡ Err c.in_err-members.field-0.0 = search rules in
+    k ∙ opened_refused _ (sym c.in_err-members.was ∙ c.header.ensures)
 
-pub returns-in-Refused-read : goal.returns-in-Refused-read
-returns-in-Refused-read c =
-    opened_members _ (sym c.in-Value.is ∙ c.header.ensures)
-    (sym (c.loop-left.invariant.1 ∙ members_stop fat_arch _ _ _ _ c.loop-left-test.true (sym c.in-Refused-read.is ∙ c.read.ensures)))
-
-pub loop-left-preserved : goal.loop-left-preserved
-loop-left-preserved c = (
-  omega arith,
-  c.loop-left.invariant.1 ∙ members_on fat_arch _ _ _ _ c.loop-left-test.true
-      (sym c.in-Value-read.is ∙ c.read.ensures),
-)
+pub returns-in_err-read : goal.returns-in_err-read
+returns-in_err-read c =
+    let k : c.from_residual-in_err-read.result ≡ Err c.in_err-read.field-0.0 = search rules in
+    let e : 8 + 20 * c.loop-index.index ≡ 8 + c.loop-index.index * 20 = omega arith in
+    k ∙ opened_stop _ (sym c.in_ok-members.was ∙ c.header.ensures) _ c.loop-index.invariant (omega arith)
+    (sym c.in_err-read.was ∙ rw e at c.read.ensures)
 
 pub returns : goal.returns
 returns c =
-    opened_members _ (sym c.in-Value.is ∙ c.header.ensures)
-    (sym (c.loop-left.invariant.1 ∙ members_none fat_arch _ _ _ _ (omega arith)))
+    opened_all _ (sym c.in_ok-members.was ∙ c.header.ensures) _ c.loop-index.invariant (omega arith)

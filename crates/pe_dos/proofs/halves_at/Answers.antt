@@ -1,48 +1,42 @@
--- `pe_dos::halves_at` meets its contract. The invariant: the numbers before `i` are those of the run, and `at` is after them.
--- The measure is what is left of 29.
+-- `pe_dos::halves_at` meets its contract: see its invariant.
 -- Assumes nothing.
-use native.Mathlib.Omega.{arith}
-use Prim.Native.Nat.{◌+◌, ◌*◌, ◌-◌}
-use mathlib.Core.Path.{◌≡◌, refl}
-use mathlib.Core.List.{[]}
-use mathlib.Core.Bool.{false}
-use lib.ListN.{length-set}
+use Rattle.std.proofs.Common.{◌≡◌, refl, ◌+◌, ◌*◌, ◌∙◌, [], false, Err, length-set, arith, rules}
 use Rattle.layout.specs.Layout.{array, numbers_at}
 use Rattle.layout.proofs.Laws.{run_cut, run_read, run_end, full_is}
-use Rattle.cursor.proofs.Laws.{new_at, u16_took, u16_cut}
+use Rattle.cursor.proofs.Laws.{took, cut}
 use Rattle.pe_dos.specs.Code.{halves_at}
 use Rattle.pe_dos.proofs.halves_at.Goals as goal
 
-pub loop-i-init : goal.loop-i-init
+pub loop-half-init : goal.loop-half-init
 unfolding numbers_at
-loop-i-init c = (omega arith, omega arith, λ l. omega arith, refl, refl)
+loop-half-init c = (omega arith, λ l. omega arith, refl, refl)
 
-pub returns-in-Refused : goal.returns-in-Refused
+pub returns-in_err-half-clause-numbers : goal.returns-in_err-half-clause-numbers
 unfolding halves_at
-returns-in-Refused c =
-    let v = c.loop-i.invariant in
-    let z = new_at c.new.ensures in
-    let m = u16_cut _ _ _ c.next_u16.ensures c.in-Refused.is in
-    let e : c.new.result.at ≡ c.args.from.at + c.loop-i.i * 2 = omega arith in
-    rw (m.why, e) (run_cut false 2 c.loop-i.i _ _ 29 [] _ _ (omega arith) (λ l. omega (arith, v.2 l)) (omega (arith, m.past)))
+returns-in_err-half-clause-numbers c =
+    let v = c.loop-half.invariant in
+    let i = c.loop-half.half-index in
+    let m = cut false 2 _ c.next.ensures.number c.in_err-half.was in
+    let e : c.loop-half.cursor.at ≡ c.args.cursor.now.at + i * 2 = omega arith in
+    let k : c.from_residual.result ≡ Err c.in_err-half.field-0.0 = search rules in
+    k
+    ∙ rw (m.why, e) (run_cut false 2 i _ _ 29 [] _ _ (omega arith) (λ l. omega (arith, v.1 l)) (omega (arith, m.past)))
 
-pub loop-i-preserved : goal.loop-i-preserved
-loop-i-preserved c =
-    let v = c.loop-i.invariant in
-    let z = new_at c.new.ensures in
-    let f = u16_took _ _ _ c.next_u16.ensures c.in-Value.is in (
-      omega arith,
+pub loop-half-preserved : goal.loop-half-preserved
+loop-half-preserved c =
+    let v = c.loop-half.invariant in
+    let f = took false 2 _ c.next.ensures.number c.next.ensures.place c.in_ok-half.was in (
       omega arith,
       λ l. omega arith,
-      simp length-set v.3,
-      run_read false 2 c.args.s.now c.args.from.at
-          c.loop-i.numbers c.loop-i.i c.loop-i.at _ v.4 (omega arith) (omega arith) (rw z at f.value),
+      simp length-set v.2,
+      run_read false 2 c.args.s.now c.args.cursor.now.at
+          c.loop-half.half-items c.loop-half.half-index c.loop-half.cursor.at _ v.3 (omega arith) (omega arith) f.value,
     )
 
-pub returns : goal.returns
+pub returns-clause-numbers : goal.returns-clause-numbers
 unfolding halves_at
-returns c =
-    let v = c.loop-i.invariant in
-    let r = run_end false 2 c.args.s.now c.args.from.at _ c.loop-i.i 29 (omega arith) v.3 v.4 in
-    let p : c.loop-i.at ≡ c.args.from.at + 58 = omega arith in
-    full_is false _ _ _ (array 29 2 []) _ (omega (arith, v.2 (omega arith))) (rw (p, r) refl)
+returns-clause-numbers c =
+    let v = c.loop-half.invariant in
+    let i : c.loop-half.half-index ≡ 29 = omega arith in
+    let r = run_end false 2 c.args.s.now c.args.cursor.now.at _ c.loop-half.half-index 29 i v.2 v.3 in
+    full_is false _ _ _ (array 29 2 []) _ (omega (arith, v.1 (omega arith))) (rw r refl)

@@ -1,13 +1,12 @@
--- `pe_mapping::inside` meets its contract: at each `return`, the tests that led there are the premises of a law of `holds`.
+-- `pe_mapping::inside` meets its contract: where the address is not below the section, its distance decides.
 -- Assumes nothing.
-use Rattle.pe_mapping.proofs.Laws.{holds_below, holds_past, holds_in}
+use Rattle.std.proofs.Common.{◌∙◌, arith}
+use Rattle.std.proofs.lemmas.Bool.{lt-leb}
+use Rattle.pe_mapping.proofs.Laws.{holds_below, holds_by}
 use Rattle.pe_mapping.proofs.inside.Goals as goal
 
-pub returns-then-address-start : goal.returns-then-address-start
-returns-then-address-start c = holds_below _ _ _ c.if-address-start.true
+pub returns-then-start-address : goal.returns-then-start-address
+returns-then-start-address c = rw c.from-start.ensures (holds_by _ _ _ (omega arith) c.readable.ensures)
 
-pub returns-then-size-address : goal.returns-then-size-address
-returns-then-size-address c = holds_past _ _ _ c.if-address-start.false c.readable-size.ensures c.if-size-address.true
-
-pub returns : goal.returns
-returns c = holds_in _ _ _ c.if-address-start.false c.readable-size.ensures c.if-size-address.false
+pub returns-else-start-address : goal.returns-else-start-address
+returns-else-start-address c = lt-leb _ _ c.if-start-address.false ∙ holds_below _ _ _ (omega arith)

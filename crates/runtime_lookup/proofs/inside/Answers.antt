@@ -1,9 +1,7 @@
--- `runtime_lookup::inside` meets its contract. The invariant: the search among the records left goes on as the whole one does, and every
--- record read lies in the file, since the table does. The measure is the number of records left.
+-- `runtime_lookup::inside` meets its contract: every record read lies in the file, since the table does, and each turn leaves the search to
+-- the records left.
 -- Assumes nothing.
-use Prim.Native.Nat.{◌-◌}
-use native.Mathlib.Omega.{arith}
-use mathlib.Core.Path.{ap}
+use Rattle.std.proofs.Common.{ap, arith}
 use Rattle.runtime_lookup.specs.Code.{search_of}
 use Rattle.runtime_lookup.proofs.Laws.{start, none_left, inside_room, inside_read, inside_before, inside_holds, inside_after}
 use Rattle.runtime_lookup.proofs.inside.Goals as goal

@@ -4,10 +4,10 @@ use Rattle.unwind_chain.proofs.Next.{next_long, next_code, next_after}
 use Rattle.unwind_chain.proofs.next_chain_code.Goals as goal
 
 pub returns-then-file-gt-FILE_LIMIT : goal.returns-then-file-gt-FILE_LIMIT
-returns-then-file-gt-FILE_LIMIT c = next_long _ _ _ c.if-file-gt-FILE_LIMIT.true c.refuse.ensures
+returns-then-file-gt-FILE_LIMIT c = next_long _ _ _ c.if-file-gt-FILE_LIMIT.true c.into.ensures
 
-pub returns-then-cursor-header : goal.returns-then-cursor-header
-returns-then-cursor-header c = next_code _ _ _ c.if-file-gt-FILE_LIMIT.false c.if-cursor-header.true c.code_at.ensures
+pub returns-then-cursor : goal.returns-then-cursor
+returns-then-cursor c = next_code _ _ _ c.if-file-gt-FILE_LIMIT.false c.if-cursor.true c.code_at.ensures
 
 pub returns : goal.returns
-returns c = next_after _ _ _ c.if-file-gt-FILE_LIMIT.false c.if-cursor-header.false c.after_codes.ensures
+returns c = next_after _ _ _ c.if-file-gt-FILE_LIMIT.false c.if-cursor.false c.after_codes.ensures

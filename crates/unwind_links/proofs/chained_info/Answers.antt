@@ -1,10 +1,19 @@
--- `unwind_links::chained_info` meets its contract: the file is too long, this link would be one too many, or the info is reached.
+-- `unwind_links::chained_info` meets its contract: a link more than led to the info, or, where that number would not fit, another past the
+-- limit.
 -- Assumes nothing.
-use Rattle.unwind_links.proofs.Laws.{chained_long, chained_over}
+use Rattle.std.proofs.Common.{◌≡◌, sym, ap, ◌∙◌, Err, rules}
+use Rattle.unwind_links.specs.Links.{info_at}
+use Rattle.unwind_links.proofs.Laws.{info_unlocated, one_more}
 use Rattle.unwind_links.proofs.chained_info.Goals as goal
 
-pub returns-then-file-gt-FILE_LIMIT : goal.returns-then-file-gt-FILE_LIMIT
-returns-then-file-gt-FILE_LIMIT c = chained_long _ _ _ _ c.if-file-gt-FILE_LIMIT.true c.refuse.ensures
+pub returns-in_err-place : goal.returns-in_err-place
+returns-in_err-place c =
+    let k : c.from_residual.result ≡ Err c.in_err-place.field-0.0 = search rules in
+    let a = c.args in
+    k ∙ info_unlocated _ (one_more a.file.now a.sections a.function a.links c.saturating_add.ensures c.locate_info.ensures ∙ c.in_err-place.was)
 
-pub returns-then-links-ge-LIMIT : goal.returns-then-links-ge-LIMIT
-returns-then-links-ge-LIMIT c = chained_over _ _ _ _ c.if-file-gt-FILE_LIMIT.false c.if-links-ge-LIMIT.true c.refuse-then-links-ge-LIMIT.ensures
+pub returns : goal.returns
+returns c =
+    let a = c.args in
+    let e = one_more a.file.now a.sections a.function a.links c.saturating_add.ensures c.locate_info.ensures in
+    c.reach.ensures ∙ ap (info_at a.file.now) (sym c.in_ok-place.was ∙ sym e)

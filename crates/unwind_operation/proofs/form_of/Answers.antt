@@ -32,7 +32,7 @@ returns-in_default-info c =
 
 pub returns-in-2 : goal.returns-in-2
 unfolding form_of
-returns-in-2 c = simp (info_of_lem c.args.byte (omega arith), c.in-2.is)
+returns-in-2 c = simp (info_of_lem c.args.byte (omega arith), c.in-2.is, c.from.ensures)
 
 pub returns-in-3 : goal.returns-in-3
 unfolding form_of

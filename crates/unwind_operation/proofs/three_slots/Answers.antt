@@ -2,16 +2,17 @@
 -- Assumes nothing.
 use native.Mathlib.Omega.{arith}
 use mathlib.Core.Path.{◌∙◌}
-use Rattle.fields.proofs.Laws.{u32_found, u32_missed}
+use mathlib.Core.Bool.{false}
+use Rattle.fields.proofs.Laws.{found, missed}
 use Rattle.unwind_operation.proofs.Laws.{three_taken, three_passed}
 use Rattle.unwind_operation.proofs.three_slots.Goals as goal
 
-pub returns-in-Value : goal.returns-in-Value
-returns-in-Value c =
-    let f = u32_found _ _ _ c.read_u32.ensures c.in-Value.is in
+pub returns-in-Ok : goal.returns-in-Ok
+returns-in-Ok c =
+    let f = found false 4 _ _ c.read.ensures c.in-Ok.is in
     c.taken.ensures ∙ three_taken _ _ _ _ _ (omega (arith, f.inside)) f.value c.operation.ensures
 
-pub returns-in-Refused : goal.returns-in-Refused
-returns-in-Refused c =
-    let m = u32_missed _ _ _ c.read_u32.ensures c.in-Refused.is in
+pub returns-in-Err : goal.returns-in-Err
+returns-in-Err c =
+    let m = missed false 4 _ _ c.read.ensures c.in-Err.is in
     three_passed _ _ _ _ _ (omega (arith, m.past)) c.beyond.ensures

@@ -2,17 +2,18 @@
 -- Assumes nothing.
 use native.Mathlib.Omega.{arith}
 use mathlib.Core.Path.{◌∙◌}
-use Rattle.fields.proofs.Laws.{u16_found, u16_missed}
+use mathlib.Core.Bool.{false}
+use Rattle.fields.proofs.Laws.{found, missed}
 use Rattle.unwind_operation.proofs.Laws.{two_taken, two_passed}
 use Rattle.unwind_operation.proofs.two_slots.Goals as goal
 
-pub returns-in-Value : goal.returns-in-Value
-returns-in-Value c =
-    let f = u16_found _ _ _ c.read_u16.ensures c.in-Value.is in
+pub returns-in-Ok : goal.returns-in-Ok
+returns-in-Ok c =
+    let f = found false 2 _ _ c.read.ensures c.in-Ok.is in
     c.taken.ensures ∙ two_taken _ _ _ _ _ (omega (arith, f.inside)) f.value c.scaled.ensures
     c.operation.ensures
 
-pub returns-in-Refused : goal.returns-in-Refused
-returns-in-Refused c =
-    let m = u16_missed _ _ _ c.read_u16.ensures c.in-Refused.is in
+pub returns-in-Err : goal.returns-in-Err
+returns-in-Err c =
+    let m = missed false 2 _ _ c.read.ensures c.in-Err.is in
     two_passed _ _ _ _ _ (omega (arith, m.past)) c.beyond.ensures

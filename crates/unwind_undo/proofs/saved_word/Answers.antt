@@ -1,13 +1,13 @@
 -- `unwind_undo::saved_word` meets its contract.
 -- Assumes nothing.
-use mathlib.Core.Path.{sym, ◌∙◌}
+use Rattle.std.proofs.Common.{sym, ◌∙◌}
 use Rattle.unwind_undo.specs.Code.{saved_of}
 use Rattle.unwind_undo.proofs.saved_word.Goals as goal
 
-pub returns-in-There : goal.returns-in-There
+pub returns-in_err-from : goal.returns-in_err-from
 unfolding saved_of
-returns-in-There c = simp (sym c.base_of.ensures ∙ c.in-There.is, c.word_above.ensures)
+returns-in_err-from c = simp (sym c.base_of.ensures ∙ c.in_err-from.was, c.from_residual.ensures)
 
-pub returns-in-Beyond : goal.returns-in-Beyond
+pub returns : goal.returns
 unfolding saved_of
-returns-in-Beyond c = simp (sym c.base_of.ensures ∙ c.in-Beyond.is)
+returns c = simp (sym c.base_of.ensures ∙ c.in_ok-from.was, c.word_above.ensures)

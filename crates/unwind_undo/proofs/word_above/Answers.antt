@@ -1,10 +1,12 @@
 -- `unwind_undo::word_above` meets its contract.
 -- Assumes nothing.
+use Rattle.std.proofs.Common.{arith}
 use Rattle.unwind_undo.proofs.Laws.{word_there, word_beyond}
 use Rattle.unwind_undo.proofs.word_above.Goals as goal
 
-pub returns-in-There : goal.returns-in-There
-returns-in-There c = word_there _ _ _ c.above.ensures c.in-There.is c.word_at.ensures
+pub returns-in_err-address : goal.returns-in_err-address
+returns-in_err-address c = word_beyond _ _ _ (omega (arith, c.in_err-address.ensures)) c.from_residual.ensures
 
-pub returns-in-Beyond : goal.returns-in-Beyond
-returns-in-Beyond c = word_beyond _ _ _ c.above.ensures c.in-Beyond.is
+pub returns : goal.returns
+returns c =
+    word_there _ _ _ (omega (arith, c.in_ok-address.ensures)) (omega (arith, c.in_ok-address.ensures)) c.word_at.ensures

@@ -1,24 +1,16 @@
--- `versym::count` meets its contract: the checks are made in order, and where they pass the section is a part of the file.
+-- `versym::count` meets its contract: where the section is lent, the count is that of its bytes.
 -- Assumes nothing.
-use mathlib.Core.Path.{sym, ◌∙◌}
-use borrow.Author.Tests.{le-leb, lt-leb}
-use Rattle.answer.proofs.Laws.{must_on, must_off}
-use Rattle.version_section.proofs.Laws.{part_section, section_there, section_past}
-use Rattle.versym.specs.Versym.{count_of}
+use Rattle.std.proofs.Common.{◌≡◌, ap, Ok, Err, rules}
+use Rattle.versym.specs.Versym.{count_in_of, count_of}
+use Rattle.versym.proofs.Laws.{lent_on, lent_off}
 use Rattle.versym.proofs.count.Goals as goal
 
-pub returns-then-file-gt-FILE_LIMIT : goal.returns-then-file-gt-FILE_LIMIT
+pub returns-in_err-section : goal.returns-in_err-section
 unfolding count_of
-returns-then-file-gt-FILE_LIMIT c = must_off _ _ _ _ (lt-leb _ _ c.if-file-gt-FILE_LIMIT.true) c.refuse.ensures
-
-pub returns-then-fits : goal.returns-then-fits
-unfolding count_of
-returns-then-fits c =
-    must_on _ _ _ _ (le-leb _ _ c.if-file-gt-FILE_LIMIT.false)
-    (section_there _ _ _ _ _ (sym c.fits.ensures ∙ c.if-fits.true) (c.count_in.ensures ∙ rw part_section))
+returns-in_err-section c =
+    let k : c.from_residual.result ≡ Err c.in_err-section.field-0.0 = search rules in
+    lent_off _ _ _ c.section.ensures _ c.in_err-section.was k
 
 pub returns : goal.returns
 unfolding count_of
-returns c =
-    must_on _ _ _ _ (le-leb _ _ c.if-file-gt-FILE_LIMIT.false)
-    (section_past _ _ _ _ _ (sym c.fits.ensures ∙ c.if-fits.false) c.cut.ensures)
+returns c = lent_on _ _ _ c.section.ensures (λ s. Ok (count_in_of s)) c.in_ok-section.was (ap Ok c.count_in.ensures)

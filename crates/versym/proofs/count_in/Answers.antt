@@ -8,6 +8,6 @@ pub returns-then-section-eq0 : goal.returns-then-section-eq0
 unfolding count_in_of
 returns-then-section-eq0 c = simp (eq-eqb _ _ c.if-section-eq0.true)
 
-pub returns : goal.returns
+pub returns-else-section-eq0 : goal.returns-else-section-eq0
 unfolding count_in_of
-returns c = simp (ne_eqb _ _ c.if-section-eq0.false)
+returns-else-section-eq0 c = simp (ne_eqb _ _ c.if-section-eq0.false)

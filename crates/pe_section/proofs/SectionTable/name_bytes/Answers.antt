@@ -1,9 +1,8 @@
--- `pe_section::SectionTable::name_bytes` meets its contract: each byte is the remainder that the definition has.
+-- `pe_section::SectionTable::name_bytes` meets its contract: the library's bytes of a number, the least significant first, are the definition's.
 -- Assumes nothing.
-use mathlib.Core.Path.{refl}
-use Rattle.fields.specs.Number.{bytes_of}
+use Rattle.std.proofs.Common.{◌∙◌}
+use Rattle.fields.proofs.Bytes.{to_le_8}
 use Rattle.pe_section.proofs.SectionTable.name_bytes.Goals as goal
 
 pub returns : goal.returns
-unfolding bytes_of
-returns c = refl
+returns c = c.to_le_bytes.ensures ∙ to_le_8 c.args.self.name
