@@ -1,12 +1,14 @@
 // Prints what the file that argument 1 names is.
 #![tactic(auto)]
 
+ghost use Rattle.std.specs.Prelude.{◌≡◌, OnOk};
+
 use answer::Refusal;
 use fat_member::FatArch;
 use fields::Unsigned;
 use std::env::FillError;
 use std::fs::File;
-use std::io::{ErrorKind, Read, Seek, SeekFrom};
+use std::io::{ErrorKind, Read, Seek, SeekFrom, Write};
 use std::process::ExitCode;
 use std::rt::Env;
 use std::{io, str};
@@ -14,51 +16,95 @@ use std::{io, str};
 // The longest file that is read, in bytes.
 const MOST: u64 = 268435456;
 
+// The bytes of a page of output: more than the longest report has, which lists 32 members.
+const PAGE: usize = 8192;
+
 // The first bytes of a fat Mach-O file, and of a DOS header.
 const FAT_MAGIC: u32 = 0xCAFEBABE;
 
 const DOS_SIGNATURE: u16 = 0x5A4D;
 
-// All that is said of a file, by its bytes.
-fn report(rt: &impl Print, s: &[u8]) -> io::Result<()> {
-    println!(rt; "bytes {}", s.len())?;
-    if u32::read(s, 0, true) == Ok(FAT_MAGIC) {
-        report_fat(rt, s)
-    } else if u16::read(s, 0, false) == Ok(DOS_SIGNATURE) {
-        println!(rt; "DOS or PE, by its signature")
-    } else {
-        println!(rt; "neither fat Mach-O nor PE, by its first bytes")
+// Text for standard output, gathered so that a report is one write; a page that is full is written out and begun again.
+#[derive(Drop)]
+struct Page<'a, P> {
+    to: &'a P,
+    text: [u8; PAGE],
+    length: usize,
+}
+
+impl<P: Print> Write for Page<'_, P> {
+    // Takes as many of the bytes as there is room for.
+    fn write(&mut self, bytes: &[u8]) -> io::Result<usize> {
+        if self.length >= PAGE {
+            self.flush()?;
+        }
+        let mut room = &mut self.text[self.length..];
+        let taken = room.write(bytes)?;
+        self.length += taken;
+        Ok(taken)
+    }
+
+    fn flush(&mut self) -> io::Result<()>
+        ensures { OnOk result (self.new.length ≡ 0) }
+    {
+        let length = self.length.min(PAGE);
+        self.to.write_all(&self.text[..length])?;
+        self.length = 0;
+        Ok(())
     }
 }
 
-fn report_fat(rt: &impl Print, s: &[u8]) -> io::Result<()> {
-    println!(rt; "fat Mach-O")?;
+// All that is said of a file, by its bytes.
+fn report(rt: &impl Print, s: &[u8]) -> io::Result<()> {
+    let mut page = Page {
+        to: rt,
+        text: [0; PAGE],
+        length: 0,
+    };
+    report_file(&mut page, s)?;
+    page.flush()
+}
+
+fn report_file(page: &mut impl Write, s: &[u8]) -> io::Result<()> {
+    writeln!(page, "bytes {}", s.len())?;
+    if u32::read(s, 0, true) == Ok(FAT_MAGIC) {
+        report_fat(page, s)
+    } else if u16::read(s, 0, false) == Ok(DOS_SIGNATURE) {
+        writeln!(page, "DOS or PE, by its signature")
+    } else {
+        writeln!(page, "neither fat Mach-O nor PE, by its first bytes")
+    }
+}
+
+fn report_fat(page: &mut impl Write, s: &[u8]) -> io::Result<()> {
+    writeln!(page, "fat Mach-O")?;
     match fat::open(s) {
         Ok(count) => {
-            println!(rt; "members {count}")?;
+            writeln!(page, "members {count}")?;
             for index in 0..count {
                 match fat::member_at(s, index as usize) {
-                    Ok(member) => report_member(rt, index, member)?,
-                    Err(refusal) => report_refusal(rt, refusal)?,
+                    Ok(member) => report_member(page, index, member)?,
+                    Err(refusal) => report_refusal(page, refusal)?,
                 }
             }
             Ok(())
         }
-        Err(refusal) => report_refusal(rt, refusal),
+        Err(refusal) => report_refusal(page, refusal),
     }
 }
 
-fn report_member(rt: &impl Print, index: u32, member: FatArch) -> io::Result<()> {
+fn report_member(page: &mut impl Write, index: u32, member: FatArch) -> io::Result<()> {
     let bits = if member.is_64 { " 64-bit" } else { "" };
-    println!(rt;
+    writeln!(
+        page,
         "member {index}: cputype 0x{:08x} cpusubtype 0x{:06x} capabilities 0x{:02x} offset {} size {} align 2^{}{bits}",
         member.cputype, member.cpusubtype, member.caps, member.offset, member.size, member.align
     )
 }
 
 // A refusal, by its number and in words.
-fn report_refusal(rt: &impl Print, refusal: Refusal) -> io::Result<()> {
-    println!(rt; "refused {}: {refusal}", u8::from(refusal))
+fn report_refusal(page: &mut impl Write, refusal: Refusal) -> io::Result<()> {
+    writeln!(page, "refused {}: {refusal}", u8::from(refusal))
 }
 
 // A line on standard error, and the status of a program that failed.
