@@ -1,5 +1,6 @@
 -- What holds of every answer, whatever enum it is written as.
 -- Assumes nothing.
+use Rattle.std.specs.Prelude.{codes}
 use mathlib.Core.Path.{◌≡◌, refl}
 use mathlib.Core.List.{List}
 use mathlib.Core.Bool.{Bool, true, false}
@@ -10,7 +11,8 @@ use lib.Dec.{ltb}
 use Rattle.answer.specs.declared.Reason.{Reason}
 use Rattle.answer.specs.declared.Reason.TheVariants as reason
 use Rattle.answer.specs.declared.Refusal.{Refusal}
-use Rattle.answer.specs.Answer.{Answer, accepted, partly, refused, number, values, number_of, number_of_reason, cut_by, cut_of, beyond_of}
+use Rattle.answer.specs.Answer.{Answer, accepted, partly, refused, number, values, number_of, number_of_reason, refuse_of, cut_by, cut_of, beyond_of}
+use Rattle.answer.specs.Words.{shown_of}
 
 -- Every reason has a number from 1 to 15.
 pub reason_numbered : (why : Reason) → (1 ≤ number_of_reason why) × (number_of_reason why ≤ 15)
@@ -56,3 +58,8 @@ by_test false end = refl
 pub cut_is_one : (end : ℕ) → number_of (cut_of end) ≡ 1
 unfolding cut_of
 cut_is_one end = by_test (ltb end (2 ^ 64)) end
+
+-- Of a refusal `{}` writes the text of its number, with no space after it.
+pub not_found_shown : shown_of (refuse_of reason.NotFound) ≡ codes "not found"
+unfolding shown_of
+not_found_shown = refl

@@ -1,8 +1,10 @@
 -- The words for each answer, and a row of bytes that holds a text.
 -- Assumes nothing.
-use Rattle.std.specs.Prelude.{ℕ, zero, suc, List, [], ◌∷◌}
+use Rattle.std.specs.Prelude.{ℕ, zero, suc, List, [], ◌∷◌, codes}
 use Prim.Native.Char.{code}
 use Prim.Native.String.{String, [] as end, ◌∷◌ as ◌then◌}
+use Rattle.answer.specs.declared.Refusal.{Refusal}
+use Rattle.answer.specs.Answer.{number_of}
 
 -- the texts of the answers, from 0 on
 abbrev pub texts : List String
@@ -40,3 +42,7 @@ padded (suc w) (c then t) = code c ∷ padded w t
 -- 2.6: the row for an answer
 unfoldable pub words_of : ℕ → List ℕ
 words_of n = padded 64 (text_at "no such answer" texts n)
+
+-- 2.6: what `{}` writes of a refusal: the text of its number, and none of the spaces that fill its row up
+unfoldable pub shown_of : Refusal → List ℕ
+shown_of k = codes (text_at "no such answer" texts (number_of k))

@@ -1,9 +1,9 @@
 // The answers of every door: why one refuses, the refusal that readers hand on unchanged, and the words for each number.
 #![tactic(auto)]
 
-ghost use Rattle.std.specs.Prelude.{◌≡◌, ℕ, ◌+◌, List};
+ghost use Rattle.std.specs.Prelude.{◌≡◌, ℕ, ◌+◌, List, Some};
 ghost use Rattle.answer.specs.Answer.{alone, refuse_of, cut_of, beyond_of, number_of};
-ghost use Rattle.answer.specs.Words.{words_of};
+ghost use Rattle.answer.specs.Words.{words_of, shown_of};
 
 use std::error::Error;
 use std::{fmt, str};
@@ -36,7 +36,10 @@ pub struct Refusal {
 
 impl Error for Refusal {}
 
+// A refusal is shown by the words for its number, with no spaces after them.
 impl fmt::Display for Refusal {
+    ghost output = { λ k. Some (shown_of k) };
+
     fn fmt<W: fmt::Write>(&self, f: &mut fmt::Formatter<W>) -> fmt::Result {
         let row = words((*self).into());
         f.write_str(str::from_utf8(&row).unwrap_or("").trim_end())

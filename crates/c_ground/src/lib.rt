@@ -157,7 +157,8 @@ pub extern "C" fn hullsift_words(number: u8, words: &mut [u8; 64])
 fn next<T: Unsigned + Numbers<1>>(bytes: &[u8], at: usize, big: bool) -> Result<Taken, Refusal>
     ensures { result ≡ next_of (λ n k. taken (get_or (T.numbers (T.of n)) 0 0) k) Err big T.WIDTH bytes.now at }
 {
-    let mut place = Cursor::new(at);
-    let [number] = place.next::<T>(bytes, big)?.numbers();
+    let cursor = Cursor::new(at);
+    let (value, place) = cursor.next::<T>(bytes, big)?;
+    let [number] = value.numbers();
     Ok(Taken { number, place })
 }

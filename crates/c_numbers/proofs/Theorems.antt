@@ -1,13 +1,12 @@
 -- What is proved of the numbers that C is handed, for every input.
 -- Assumes nothing.
-use Rattle.std.proofs.Common.{◌≡◌, ℕ, List, [], Bool, Result}
+use Rattle.std.proofs.Common.{◌≡◌, ℕ, List, [], Result}
 use Rattle.answer.specs.Answer.{answer_of, number, values}
 use Rattle.answer.specs.declared.Refusal.{Refusal}
 use Rattle.answer.proofs.Unique.{same, same_both}
 use Rattle.fields.specs.Answers.{answer_write_bytes}
 use Rattle.runtime_function.specs.Answers.{answer_read_runtime_function, count_read_runtime_function}
 use Rattle.runtime_function.specs.declared.RuntimeFunction.{RuntimeFunction}
-use Rattle.c_numbers.specs.Bit.{bit_of}
 
 -- Two answers that meet a promise of this crate are equal, and so are the values that they store.
 pub store_unique : {A : Type 0} (numbers : A → List ℕ) (n : ℕ) (a : Result A Refusal) {r q : ℕ} {l k : List ℕ}
@@ -18,7 +17,7 @@ store_unique numbers n a = same_both
 pub number_unique : (a : Result Unit Refusal) {r q : ℕ} → r ≡ number (answer_of (λ u. []) a) → q ≡ number (answer_of (λ u. []) a) → r ≡ q
 number_unique a = same
 
--- the same at the answer of a writer, at a runtime record, and at a yes or no
+-- the same at the answer of a writer, and at a runtime record
 pub write_bytes_number_unique : (a : Result Unit Refusal) {r q : ℕ} → r ≡ number (answer_write_bytes a) → q ≡ number (answer_write_bytes a)
     → r ≡ q
 write_bytes_number_unique a = same
@@ -31,6 +30,3 @@ pub read_runtime_function_values_unique : (a : Result RuntimeFunction Refusal) {
     → r ≡ values count_read_runtime_function (answer_read_runtime_function a)
     → q ≡ values count_read_runtime_function (answer_read_runtime_function a) → r ≡ q
 read_runtime_function_values_unique a = same
-
-pub bit_unique : (b : Bool) {r q : ℕ} → r ≡ bit_of b → q ≡ bit_of b → r ≡ q
-bit_unique b = same

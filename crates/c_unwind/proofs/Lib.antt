@@ -1,2 +1,2 @@
--- `Theorems` says that the contract of each exported function fixes what it answers; `Laws` has what the proofs cite of an operation.
+-- `Theorems` says that the contract of each exported function fixes what it answers.
 pub mod Theorems

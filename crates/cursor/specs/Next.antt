@@ -1,7 +1,6 @@
 -- What reading a number at a cursor answers: the number with the cursor after it, or the refusal of the field.
 -- Assumes nothing.
-use Rattle.std.specs.Prelude.{ℕ, ◌+◌, List, Bool, length, leb, Result, Ok}
-use Rattle.answer.specs.Test.{pick}
+use Rattle.std.specs.Prelude.{ℕ, ◌+◌, List, Bool, Result, Ok}
 use Rattle.answer.specs.declared.Refusal.{Refusal}
 use Rattle.fields.specs.Field.{read_of}
 use Rattle.cursor.specs.declared.Cursor.{Cursor}
@@ -15,9 +14,5 @@ unfoldable pub next_of : {A : Type 0} → (ℕ → Cursor → A) → (Refusal �
 next_of taken refused big w s at = read_of (λ n. taken n (record { at = at + w })) refused big w s at
 
 -- a number and the cursor after it
-abbrev pub taken : ℕ → Cursor → Result (ℕ × Cursor) Refusal
+abbrev pub taken : {A : Type 0} → A → Cursor → Result (A × Cursor) Refusal
 taken n k = Ok (n, k)
-
--- 4.6: where a cursor is after a field of `w` bytes was read at it: past the field, or where it was, if the field is not whole
-unfoldable pub past_of : ℕ → List ℕ → Cursor → Cursor
-past_of w s k = pick (leb (k.at + w) (length s)) (record { at = k.at + w }) k

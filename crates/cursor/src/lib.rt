@@ -1,9 +1,8 @@
-// A place in lent bytes: each read hands back the number there and moves past it, and a refusal leaves the place as it was.
+// A place in lent bytes, by value: each read hands back the number and the place past it, or the refusal of the field.
 #![tactic(auto)]
 
 ghost use Rattle.std.specs.Prelude.{◌≡◌};
-ghost use Rattle.cursor.specs.Next.{new_of, next_of, past_of};
-ghost use Rattle.fields.specs.Field.{read_of};
+ghost use Rattle.cursor.specs.Next.{new_of, next_of, taken};
 
 use answer::Refusal;
 use fields::Unsigned;
@@ -20,12 +19,13 @@ impl Cursor {
         Cursor { at }
     }
 
-    pub fn next<T: Unsigned>(&mut self, s: &[u8], big: bool) -> Result<T, Refusal>
-        ensures number { result ≡ read_of (λ n. Ok (T.of n)) Err big T.WIDTH s.now self.old.at }
-        ensures place { self.new ≡ past_of T.WIDTH s.now self.old }
+    pub fn next<T: Unsigned>(self, s: &[u8], big: bool) -> Result<(T, Cursor), Refusal>
+        ensures { result ≡ next_of (λ n k. taken (T.of n) k) Err big T.WIDTH s.now self.at }
     {
         let number = T::read(s, self.at, big)?;
-        self.at += T::WIDTH;
-        Ok(number)
+        let next = Cursor {
+            at: self.at + T::WIDTH,
+        };
+        Ok((number, next))
     }
 }

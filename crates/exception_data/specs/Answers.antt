@@ -1,4 +1,4 @@
--- What the answer of this crate stands for, how many numbers that is, and how a definition goes on from it. The numbers: the machine whose
+-- What the answer of this crate stands for, and how many numbers that is. The numbers: the machine whose
 -- form the records have, the table's offset and count, and the section table's offset, its rows and the file alignment.
 -- Assumes nothing.
 use Rattle.std.specs.Prelude.{Result, ℕ, List, [], ◌∷◌}

@@ -9,7 +9,7 @@ use mathlib.Core.Logic.{⊎_elim}
 use Prim.Native.Nat.{ℕ, zero, suc, ◌+◌, ◌*◌, ◌-◌, ◌≤◌, ◌<◌}
 use native.Mathlib.Nat.{not-suc-le-zero, le_of_suc-le-suc}
 use native.Mathlib.Omega.{arith}
-use lib.ListN.{length}
+use lib.ListN.{length, take, drop}
 use lib.Dec.{leb, eqb}
 use borrow.Author.Tests.{le-leb, lt-leb, leb-true, eq-eqb, ne_eqb, eqb-true}
 use Rattle.answer.specs.Test.{file_limit}
@@ -23,7 +23,7 @@ use Rattle.layout.proofs.Theorems.{reads}
 use Rattle.fat_member.specs.FatArch.{fat_arch, read_of, Inside}
 use Rattle.fat_member.specs.declared.FatArch.{FatArch}
 use Rattle.fat_member.proofs.Laws.{told_must, told_reads, member_inside}
-use Rattle.fat.specs.Fat.{fat_magic, member_limit, header_in, Held, members, refused, more, members_at, held_in, count_of, open_of, nth, nth_of, member_at_of}
+use Rattle.fat.specs.Fat.{fat_magic, member_limit, header_in, Held, members, refused, more, members_at, held_in, count_of, open_of, nth, nth_of, member_at_of, bytes_at_of, start_of}
 use Rattle.fat.proofs.Terms.{Header, There}
 
 -- The header, check by check.
@@ -305,3 +305,15 @@ found_inside s i = held_inside s (held_in s) i (λ ms e l. rw (← listed_at s i
 
 pub inside_is : (s : List ℕ) {f : Result FatArch Refusal} {m : FatArch} → f ≡ Ok m → Inside s f → m.offset + m.size ≤ length s
 inside_is s is h = rw is at h
+
+-- The part that an answer names, of the file at `p`.
+module _ (s : List ℕ) (p : ℕ × ℕ) {f : Result FatArch Refusal} where
+  pub part_is : {m : FatArch} → f ≡ Ok m
+      → (take (m.offset + m.size - m.offset) (drop m.offset s) ≡ bytes_at_of s f) × ((p.0, m.offset + p.1) ≡ start_of p f)
+  part_is {m} is =
+      let e : m.offset + m.size - m.offset ≡ m.size = omega arith in
+      let d : m.offset + p.1 ≡ p.1 + m.offset = omega arith in
+      rw (is, e, d) (refl, refl)
+
+  pub part_none : {k : Refusal} → f ≡ Err k → ([] ≡ bytes_at_of s f) × ((p.0, 0 + p.1) ≡ start_of p f)
+  part_none is = let d : 0 + p.1 ≡ p.1 = omega arith in rw (is, d) (refl, refl)

@@ -1,7 +1,6 @@
 -- What is proved of a fat file, for every file.
 -- Assumes nothing.
 use Rattle.std.specs.Prelude.{Result, Ok, Err, ℕ}
-use Rattle.std.specs.Borrow.{Bor}
 use mathlib.Core.Path.{◌≡◌, refl, sym}
 use mathlib.Core.List.{List, ◌++◌, append_assoc}
 use mathlib.Core.Bool.{true}
@@ -22,7 +21,7 @@ use Rattle.layout.specs.Layout.{placed}
 use Rattle.fat_member.specs.FatArch.{fat_arch, read_of}
 use Rattle.fat_member.specs.declared.FatArch.{FatArch}
 use Rattle.fat_member.proofs.Theorems.{end_at, whole_accepted, end_past}
-use Rattle.fat.specs.Fat.{fat_header, fat_magic, open_of, member_at_of, bytes_at_of, part_of}
+use Rattle.fat.specs.Fat.{fat_header, fat_magic, open_of, member_at_of, bytes_at_of, start_of}
 use Rattle.fat.specs.Answers.{answer_open_fat, count_open_fat}
 use Rattle.fat.specs.declared.FatArchBytes.{FatArchBytes}
 use Rattle.fat.proofs.Terms.{Header, There, row_at, Good}
@@ -128,9 +127,14 @@ open_unique s = same
 pub member_at_unique : (s : List ℕ) (i : ℕ) {r q : Result FatArch Refusal} → r ≡ member_at_of s i → q ≡ member_at_of s i → r ≡ q
 member_at_unique s i = same
 
-pub bytes_at_unique : (file : Bor (List ℕ)) (i : ℕ) {r q : Result FatArchBytes Refusal} → r ≡ part_of file (member_at_of file.now i)
-    → q ≡ part_of file (member_at_of file.now i) → r ≡ q
-bytes_at_unique file i = same
+-- of the file `s` that is at `p`
+pub bytes_at_unique : (s : List ℕ) (p : ℕ × ℕ) (i : ℕ) (r q : FatArchBytes)
+    → (r.arch ≡ member_at_of s i) × (r.bytes.now ≡ bytes_at_of s (member_at_of s i)) × (r.bytes.ref_ptr ≡ start_of p (member_at_of s i))
+    → (q.arch ≡ member_at_of s i) × (q.bytes.now ≡ bytes_at_of s (member_at_of s i)) × (q.bytes.ref_ptr ≡ start_of p (member_at_of s i))
+    → r ≡ q
+bytes_at_unique s p i r q e f =
+    let whole : (x : FatArchBytes) → x ≡ record { arch = x.arch; bytes = record { ref_ptr = x.bytes.ref_ptr; now = x.bytes.now } } = λ x. refl in
+    rw (whole r, whole q, same e.0 f.0, same e.1 f.1, same e.2 f.2) refl
 
 -- The answer has as many numbers as it says, zeros where it is refused.
 pub open_count : (a : Result ℕ Refusal) → length (values count_open_fat (answer_open_fat a)) ≡ count_open_fat

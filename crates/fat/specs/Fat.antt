@@ -1,14 +1,12 @@
 -- A fat file: a fat_header, then the fat_archs that it counts, and what each door answers (mach-o/fat.h).
 -- Assumes nothing.
 use Rattle.std.specs.Prelude.{Result, Ok, Err, ℕ, zero, suc, ◌+◌, List, [], ◌∷◌, ◌++◌, true, length, take, drop, leb, eqb}
-use Rattle.std.specs.Borrow.{Bor}
 use Rattle.answer.specs.Answer.{on_ok, refuse_of, magic, limit, not_found}
 use Rattle.answer.specs.Test.{must, in_limit}
 use Rattle.answer.specs.declared.Refusal.{Refusal}
 use Rattle.layout.specs.Layout.{Field, field, up_to, after, bytes_in, the, reading}
 use Rattle.fat_member.specs.FatArch.{fat_arch, read_of}
 use Rattle.fat_member.specs.declared.FatArch.{FatArch}
-use Rattle.fat.specs.declared.FatArchBytes.{FatArchBytes}
 
 -- 4.10: offset, width, name
 abbrev pub fat_header : List Field
@@ -86,10 +84,3 @@ bytes_at_of s (Err k) = []
 abbrev pub start_of : ℕ × ℕ → Result FatArch Refusal → ℕ × ℕ
 start_of p (Ok m) = (p.0, p.1 + m.offset)
 start_of p (Err k) = p
-
--- 5.11, 5.12: what asking for a member with its bytes answers, by what asking for the member does: the bytes and where they are, of the
--- lent file
-abbrev pub part_of : Bor (List ℕ) → Result FatArch Refusal → Result FatArchBytes Refusal
-part_of file (Ok m) =
-    Ok (record { arch = m; bytes = record { ref_ptr = start_of file.ref_ptr (Ok m); now = bytes_at_of file.now (Ok m) } })
-part_of file (Err k) = Err k

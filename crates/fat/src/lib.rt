@@ -2,16 +2,18 @@
 #![tactic(auto)]
 
 ghost use Rattle.std.specs.Prelude.{◌≡◌};
-ghost use Rattle.fat.specs.Fat.{header_in, open_of, member_at_of, part_of};
+ghost use Rattle.fat_member.specs.FatArch.{Inside};
+ghost use Rattle.fat.specs.Fat.{header_in, open_of, member_at_of, bytes_at_of, start_of};
 
 use answer::{Reason, Refusal};
 use cursor::Cursor;
 use fat_member::FatArch;
 
 // A member and the part of the file that it occupies, which may be empty.
+// The answer stands beside the bytes, since a refusal has a part too: it is empty and starts where the file starts (5.12).
 #[derive(Clone, Copy)]
 pub struct FatArchBytes<'a> {
-    pub arch: FatArch,
+    pub arch: Result<FatArch, Refusal>,
     pub bytes: &'a [u8],
 }
 
@@ -44,16 +46,30 @@ pub fn member_at(file: &[u8], index: usize) -> Result<FatArch, Refusal>
 }
 
 // The member with that index, and its bytes where they are in the file.
-pub fn bytes_at<'a>(file: &'a [u8], index: usize) -> Result<FatArchBytes<'a>, Refusal>
-    ensures { result ≡ part_of file.entry (member_at_of file.now index) }
+#[tactic(auto, using(crate::proofs::Laws::found_inside))]
+pub fn bytes_at<'a>(file: &'a [u8], index: usize) -> FatArchBytes<'a>
+    ensures { (result.arch ≡ member_at_of file.now index)
+        × (result.bytes.now ≡ bytes_at_of file.now (member_at_of file.now index))
+        × (result.bytes.ref_ptr ≡ start_of file.entry.ref_ptr (member_at_of file.now index)) }
 {
-    let arch = member_at(file, index)?;
-    let from = arch.offset as usize;
-    let end = from + arch.size as usize;
-    Ok(FatArchBytes {
-        arch,
-        bytes: &file[from..end],
-    })
+    let arch = member_at(file, index);
+    let bytes = slice(file, arch);
+    FatArchBytes { arch, bytes }
+}
+
+// The part of the file that a member occupies.
+fn slice(file: &[u8], arch: Result<FatArch, Refusal>) -> &[u8]
+    requires { Inside file.now arch }
+    ensures { (result.now ≡ bytes_at_of file.now arch) × (result.ref_ptr ≡ start_of file.entry.ref_ptr arch) }
+{
+    match arch {
+        Ok(member) => {
+            let from = member.offset as usize;
+            let end = from + member.size as usize;
+            &file[from..end]
+        }
+        Err(_) => &file[0..0],
+    }
 }
 
 // How many members the header counts.
@@ -63,12 +79,12 @@ fn header(file: &[u8]) -> Result<u32, Refusal>
     if answer::FILE_LIMIT < file.len() {
         return Err(Reason::Limit.into());
     }
-    let mut cursor = Cursor::new(0);
-    let magic: u32 = cursor.next(file, true)?;
+    let cursor = Cursor::new(0);
+    let (magic, cursor) = cursor.next::<u32>(file, true)?;
     if magic != FAT_MAGIC {
         return Err(Reason::Magic.into());
     }
-    let count = cursor.next(file, true)?;
+    let (count, _) = cursor.next(file, true)?;
     if MEMBER_LIMIT < count {
         return Err(Reason::Limit.into());
     }

@@ -2,14 +2,14 @@
 -- Assumes nothing.
 use Rattle.std.specs.Prelude.{Result, ℕ, List, [], ◌∷◌}
 use Rattle.answer.specs.Answer.{Answer, answer_of}
-use Rattle.answer.specs.Test.{pick}
+use Rattle.answer.specs.Bit.{bit_of}
 use Rattle.answer.specs.declared.Refusal.{Refusal}
 use Rattle.fat_member.specs.declared.FatArch.{FatArch}
 
--- the numbers of a member, in the order of its fields; `is_64` is 1 or 0
+-- 15.4: the numbers of a member, in the order of its fields
 abbrev pub numbers_of : FatArch → List ℕ
 numbers_of m =
-    m.cputype ∷ m.cpusubtype ∷ m.caps ∷ m.offset ∷ m.size ∷ m.align ∷ pick m.is_64 1 0 ∷ []
+    m.cputype ∷ m.cpusubtype ∷ m.caps ∷ m.offset ∷ m.size ∷ m.align ∷ bit_of m.is_64 ∷ []
 
 abbrev pub answer_read_fat_arch : Result FatArch Refusal → Answer
 answer_read_fat_arch = answer_of numbers_of

@@ -44,16 +44,16 @@ impl Numbers<7> for FatArch {
 pub fn read(file: &[u8], at: usize) -> Result<FatArch, Refusal>
     ensures { result ≡ read_of fat_arch file.now at }
 {
-    let mut cursor = Cursor::new(at);
-    let cputype: u32 = cursor.next(file, true)?;
-    let cpusubtype: u32 = cursor.next(file, true)?;
-    let offset: u32 = cursor.next(file, true)?;
-    let size: u32 = cursor.next(file, true)?;
+    let cursor = Cursor::new(at);
+    let (cputype, cursor) = cursor.next::<u32>(file, true)?;
+    let (cpusubtype, cursor) = cursor.next::<u32>(file, true)?;
+    let (offset, cursor) = cursor.next::<u32>(file, true)?;
+    let (size, cursor) = cursor.next::<u32>(file, true)?;
     // The sum may have more than 32 bits.
     if !fields::fits(file.len(), offset as usize, size as usize) {
         return Err(Reason::PastFile.into());
     }
-    let align = cursor.next(file, true)?;
+    let (align, _) = cursor.next(file, true)?;
     Ok(FatArch {
         cputype,
         cpusubtype: cpusubtype % 0x01000000,

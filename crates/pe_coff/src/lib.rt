@@ -41,17 +41,18 @@ impl Numbers<7> for CoffHeader {
 pub fn read(s: &[u8], at: usize) -> Result<CoffHeader, Refusal>
     ensures { result ≡ read_of s.now at }
 {
-    let mut cursor = Cursor::new(at);
-    let machine = cursor.next(s, false)?;
-    let number_of_sections = cursor.next(s, false)?;
-    if pe_section::LIMIT < number_of_sections as usize {
+    let cursor = Cursor::new(at);
+    let (machine, cursor) = cursor.next(s, false)?;
+    let (number_of_sections, cursor) = cursor.next(s, false)?;
+    let count = number_of_sections as usize;
+    if pe_section::LIMIT < count {
         return Err(Reason::Limit.into());
     }
-    let time_date_stamp = cursor.next(s, false)?;
-    let pointer_to_symbol_table = cursor.next(s, false)?;
-    let number_of_symbols = cursor.next(s, false)?;
-    let size_of_optional_header = cursor.next(s, false)?;
-    let characteristics = cursor.next(s, false)?;
+    let (time_date_stamp, cursor) = cursor.next(s, false)?;
+    let (pointer_to_symbol_table, cursor) = cursor.next(s, false)?;
+    let (number_of_symbols, cursor) = cursor.next(s, false)?;
+    let (size_of_optional_header, cursor) = cursor.next(s, false)?;
+    let (characteristics, _) = cursor.next(s, false)?;
     Ok(CoffHeader {
         machine,
         number_of_sections,

@@ -20,6 +20,7 @@ use Rattle.layout.specs.Layout.{widths, array, elements, read_by, numbers_at, wr
 use Rattle.layout.proofs.Laws.{Part, found, missing, part, full_is, missed_at, record_done, record_refused}
 use Rattle.layout.proofs.Theorems.{Reads, whole as all, cut as lacking, reads}
 use Rattle.pe_dos.specs.Dos.{dos_header, header_of, numbers_of, dos_magic, whole, start, rest, read_of, write_of, write_out}
+use Rattle.cursor.specs.declared.Cursor.{Cursor}
 use Rattle.pe_dos.specs.Code.{halves_at}
 use Rattle.pe_dos.specs.declared.DosHeader.{DosHeader}
 
@@ -49,63 +50,72 @@ module _ (s : List ℕ) (at : ℕ) {n : ℕ} (h : at + 2 ≤ length s) (e : n �
   unfolding read_of numbers_at
   dos_rest l f = full_is false _ _ _ early _ h (must_on Err _ _ _ (eq-eqb _ _ (sym e ∙ l)) f)
 
--- the numbers of the run after the signature, and what is left to read
-pub record Run (full : List ℕ → Result DosHeader Refusal) (ns s : List ℕ) (at : ℕ) : Type 0 where
+-- the numbers of the run after the signature, the place past it, and what is left to read
+pub record Run (full : List ℕ → Result DosHeader Refusal) (ns s : List ℕ) (at next : ℕ) : Type 0 where
   pub numbers : ns ≡ numbers_at false (array 29 2 []) s at
+  pub past : next ≡ at + 58
   pub onward : read_by (λ ms. full (numbers_at false (array 29 2 []) s at ++ ms)) short false (4 ∷ []) s (at + 58) ≡ read_by full short false
       late s at
 
-abbrev no_halves : ℕ → Result (List ℕ) Refusal
+abbrev Halves : Type 0
+Halves = Result (List ℕ × Cursor) Refusal
+
+abbrev all_halves : ℕ → List ℕ → Halves
+all_halves at ns = Ok (ns, record { at = at + 58 })
+
+abbrev no_halves : ℕ → Halves
 no_halves end = Err (cut_of end)
 
-abbrev told : (List ℕ → Result DosHeader Refusal) → Result (List ℕ) Refusal → List ℕ → ℕ → Type 0
-told full r s at = Part r (Ok (numbers_at false (array 29 2 []) s at)) no_halves (read_by full short false late s at)
+abbrev told : (List ℕ → Result DosHeader Refusal) → Halves → List ℕ → ℕ → Type 0
+told full r s at = Part r (all_halves at (numbers_at false (array 29 2 []) s at)) no_halves (read_by full short false late s at)
     (read_by (λ ns. full (numbers_at false (array 29 2 []) s at ++ ns)) short false (4 ∷ []) s (at + 58)) short
 
-both : (full : List ℕ → Result DosHeader Refusal) (r : Result (List ℕ) Refusal) (s : List ℕ) (at : ℕ) → r ≡ halves_at s at → told full r s at
+both : (full : List ℕ → Result DosHeader Refusal) (r : Halves) (s : List ℕ) (at : ℕ) → r ≡ halves_at s at → told full r s at
 unfolding halves_at
-both full r s at e = rw e (part Ok no_halves full short false (array 29 2 []) (4 ∷ []) s at)
+both full r s at e = rw e (part (all_halves at) no_halves full short false (array 29 2 []) (4 ∷ []) s at)
 
-never : {ns : List ℕ} {k : Refusal} → ◌≡◌ {A = Result (List ℕ) Refusal} (Ok ns) (Err k) → ⊥
+never : {x : List ℕ × Cursor} {k : Refusal} → ◌≡◌ {A = Halves} (Ok x) (Err k) → ⊥
 never e = let z : ◌≡◌ {A = ℕ} 0 1 = cc in omega arith
 
-same_numbers : {ns ms : List ℕ} → ◌≡◌ {A = Result (List ℕ) Refusal} (Ok ns) (Ok ms) → ns ≡ ms
-same_numbers e = cc
+same_halves : {x y : List ℕ × Cursor} → ◌≡◌ {A = Halves} (Ok x) (Ok y) → x ≡ y
+same_halves e = cc
 
-same_refusal : {k j : Refusal} → ◌≡◌ {A = Result (List ℕ) Refusal} (Err k) (Err j) → k ≡ j
+same_refusal : {k j : Refusal} → ◌≡◌ {A = Halves} (Err k) (Err j) → k ≡ j
 same_refusal e = cc
 
-cut_of_lem : (full : List ℕ → Result DosHeader Refusal) {r : Result (List ℕ) Refusal} (s : List ℕ) (at : ℕ) {k : Refusal} → r ≡ Err k
+cut_of_lem : (full : List ℕ → Result DosHeader Refusal) {r : Halves} (s : List ℕ) (at : ℕ) {k : Refusal} → r ≡ Err k
     → told full r s at → Err k ≡ read_by full short false late s at
 cut_of_lem full s at w (found e f) = absurd (never (sym e ∙ w))
 cut_of_lem full s at w (missing n e f) = ap Err (same_refusal (sym w ∙ e)) ∙ f
 
-run_of : (full : List ℕ → Result DosHeader Refusal) {r : Result (List ℕ) Refusal} (s : List ℕ) (at : ℕ) {ns : List ℕ} → r ≡ Ok ns
-    → told full r s at → Run full ns s at
-run_of full s at w (found e f) = record { numbers = same_numbers (sym w ∙ e); onward = f }
+run_of : (full : List ℕ → Result DosHeader Refusal) {r : Halves} (s : List ℕ) (at : ℕ) {ns : List ℕ} {j : Cursor} → r ≡ Ok (ns, j)
+    → told full r s at → Run full ns s at j.at
+run_of full s at w (found e f) =
+    let x = same_halves (sym w ∙ e) in
+    record { numbers = ap (λ y. y.0) x; past = ap (λ y. y.1.at) x; onward = f }
 run_of full s at w (missing n e f) = absurd (never (sym w ∙ e))
 
 -- what the run tells of the rest of the header
-module _ (full : List ℕ → Result DosHeader Refusal) {r : Result (List ℕ) Refusal} (s : List ℕ) (at : ℕ) (e : r ≡ halves_at s at) where
+module _ (full : List ℕ → Result DosHeader Refusal) {r : Halves} (s : List ℕ) (at : ℕ) (e : r ≡ halves_at s at) where
   pub run_missed : {k : Refusal} → r ≡ Err k → Err k ≡ read_by full short false late s at
   run_missed w = cut_of_lem full s at w (both full r s at e)
 
-  pub run_whole : {ns : List ℕ} → r ≡ Ok ns → Run full ns s at
+  pub run_whole : {ns : List ℕ} {j : Cursor} → r ≡ Ok (ns, j) → Run full ns s at j.at
   run_whole w = run_of full s at w (both full r s at e)
 
-module _ (full : List ℕ → Result DosHeader Refusal) {ns : List ℕ} (s : List ℕ) (at : ℕ) (t : Run full ns s at) (i : ℕ) (p : i ≡ at + 58) where
+module _ (full : List ℕ → Result DosHeader Refusal) {ns : List ℕ} (s : List ℕ) (at i : ℕ) (t : Run full ns s at i) where
   pub pointer_missed : {k : Refusal} → Missed 4 s i k → Err k ≡ read_by full short false late s at
   pointer_missed m =
       missed_at false (4 ∷ []) 0 (omega arith) (λ ms. full (numbers_at false (array 29 2 []) s at ++ ms)) Err s (at + 58) (at + 58)
-      (rw p at m) (omega arith) (λ l. omega arith)
+      (rw t.past at m) (omega arith) (λ l. omega arith)
       ∙ t.onward
 
   pub pointer_read : {n : ℕ} → i + 4 ≤ length s → n ≡ number_at false 4 s i
       → full (elements 29 0 ns (n ∷ [])) ≡ read_by full short false late s at
   unfolding numbers_at
   pointer_read h k =
-      full_is false s (λ ms. full (numbers_at false (array 29 2 []) s at ++ ms)) short (4 ∷ []) (at + 58) (omega (arith, p))
-      (rw (k, p, t.numbers))
+      full_is false s (λ ms. full (numbers_at false (array 29 2 []) s at ++ ms)) short (4 ∷ []) (at + 58) (omega (arith, t.past))
+      (rw (k, t.past, t.numbers))
       ∙ t.onward
 
 -- Writing.

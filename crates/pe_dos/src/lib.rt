@@ -1,7 +1,7 @@
 // The DOS header that an image begins with (`DosHeader`), read from lent bytes and written into them.
 #![tactic(auto)]
 
-ghost use Rattle.std.specs.Prelude.{◌≡◌, false, ◌∷◌, [], ◌+◌, ◌≤◌, length, take, IfOk};
+ghost use Rattle.std.specs.Prelude.{◌≡◌, false, ◌∷◌, [], ◌+◌, ◌≤◌, length, take};
 ghost use Rattle.fields.specs.Field.{put};
 ghost use Rattle.layout.specs.Layout.{elements, array, write_by};
 ghost use Rattle.pe_dos.specs.Dos.{header_of, numbers_of, read_of, write_of, write_out};
@@ -42,13 +42,13 @@ pub struct DosHeader {
 pub fn read(s: &[u8], at: usize) -> Result<DosHeader, Refusal>
     ensures { result ≡ read_of s.now at }
 {
-    let mut cursor = Cursor::new(at);
-    let signature = cursor.next(s, false)?;
+    let cursor = Cursor::new(at);
+    let (signature, cursor) = cursor.next(s, false)?;
     if signature != SIGNATURE {
         return Err(Reason::Magic.into());
     }
-    let halves = halves_at(s, &mut cursor)?;
-    let pe_pointer = cursor.next(s, false)?;
+    let (halves, cursor) = halves_at(s, cursor)?;
+    let (pe_pointer, _) = cursor.next(s, false)?;
     Ok(header_of(signature, halves, pe_pointer))
 }
 
@@ -67,16 +67,18 @@ pub fn write(out: &mut [u8], at: usize, header: DosHeader) -> Result<(), Refusal
     Err(Reason::Room.into())
 }
 
-// The numbers of two bytes after the signature; the cursor moves past them.
-fn halves_at(s: &[u8], cursor: &mut Cursor) -> Result<[u16; 29], Refusal>
-    ensures numbers { result ≡ halves_at s.now cursor.old.at }
-    ensures place { IfOk result (λ ns. cursor.new.at ≡ cursor.old.at + 58) }
+// The run of numbers of two bytes from a cursor on, and the cursor past them.
+fn halves_at(s: &[u8], from: Cursor) -> Result<([u16; 29], Cursor), Refusal>
+    ensures { result ≡ halves_at s.now from.at }
 {
     let mut numbers = [0; 29];
+    let mut cursor = from;
     for half in &mut numbers {
-        *half = cursor.next(s, false)?;
+        let (number, next) = cursor.next(s, false)?;
+        *half = number;
+        cursor = next;
     }
-    Ok(numbers)
+    Ok((numbers, cursor))
 }
 
 fn header_of(signature: u16, n: [u16; 29], pe_pointer: u32) -> DosHeader

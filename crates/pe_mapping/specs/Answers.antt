@@ -1,4 +1,4 @@
--- What the answer of this crate stands for, how many numbers that is, and how a definition goes on from it.
+-- What the answer of this crate stands for, and how many numbers that is.
 -- Assumes nothing.
 use Rattle.std.specs.Prelude.{Result, ℕ, [], ◌∷◌}
 use Rattle.answer.specs.Answer.{Answer, answer_of}

@@ -81,17 +81,17 @@ pub fn get_row(
 pub fn read(s: &[u8], at: usize) -> Result<SectionTable, Refusal>
     ensures { result ≡ read_of s.now at }
 {
-    let mut cursor = Cursor::new(at);
-    let name = cursor.next(s, false)?;
-    let virtual_size = cursor.next(s, false)?;
-    let virtual_address = cursor.next(s, false)?;
-    let size_of_raw_data = cursor.next(s, false)?;
-    let pointer_to_raw_data = cursor.next(s, false)?;
-    let pointer_to_relocations = cursor.next(s, false)?;
-    let pointer_to_linenumbers = cursor.next(s, false)?;
-    let number_of_relocations = cursor.next(s, false)?;
-    let number_of_linenumbers = cursor.next(s, false)?;
-    let characteristics = cursor.next(s, false)?;
+    let cursor = Cursor::new(at);
+    let (name, cursor) = cursor.next(s, false)?;
+    let (virtual_size, cursor) = cursor.next(s, false)?;
+    let (virtual_address, cursor) = cursor.next(s, false)?;
+    let (size_of_raw_data, cursor) = cursor.next(s, false)?;
+    let (pointer_to_raw_data, cursor) = cursor.next(s, false)?;
+    let (pointer_to_relocations, cursor) = cursor.next(s, false)?;
+    let (pointer_to_linenumbers, cursor) = cursor.next(s, false)?;
+    let (number_of_relocations, cursor) = cursor.next(s, false)?;
+    let (number_of_linenumbers, cursor) = cursor.next(s, false)?;
+    let (characteristics, _) = cursor.next(s, false)?;
     Ok(SectionTable {
         name,
         virtual_size,

@@ -29,10 +29,10 @@ impl Numbers<3> for RuntimeFunction {
 pub fn read(s: &[u8], at: usize) -> Result<RuntimeFunction, Refusal>
     ensures { result ≡ read_of s.now at }
 {
-    let mut cursor = Cursor::new(at);
-    let begin = cursor.next(s, false)?;
-    let end = cursor.next(s, false)?;
-    let unwind = cursor.next(s, false)?;
+    let cursor = Cursor::new(at);
+    let (begin, cursor) = cursor.next(s, false)?;
+    let (end, cursor) = cursor.next(s, false)?;
+    let (unwind, _) = cursor.next(s, false)?;
     Ok(RuntimeFunction { begin, end, unwind })
 }
 

@@ -1,4 +1,4 @@
--- What each answer of this crate stands for, how many numbers that is, and how a definition goes on from it.
+-- What each answer of this crate stands for, and how many numbers that is.
 -- Assumes nothing.
 use Rattle.std.specs.Prelude.{Result, ℕ, List, [], ◌∷◌}
 use Rattle.answer.specs.Answer.{Answer, answer_of}

@@ -75,11 +75,11 @@ pub fn entry_at(file: &[u8], at: usize, index: usize) -> Result<ScopeTableEntry,
 pub fn read(s: &[u8], at: usize) -> Result<ScopeTableEntry, Refusal>
     ensures { result ≡ read_of s.now at }
 {
-    let mut cursor = Cursor::new(at);
-    let begin = cursor.next(s, false)?;
-    let end = cursor.next(s, false)?;
-    let handler = cursor.next(s, false)?;
-    let target = cursor.next(s, false)?;
+    let cursor = Cursor::new(at);
+    let (begin, cursor) = cursor.next(s, false)?;
+    let (end, cursor) = cursor.next(s, false)?;
+    let (handler, cursor) = cursor.next(s, false)?;
+    let (target, _) = cursor.next(s, false)?;
     Ok(ScopeTableEntry {
         begin,
         end,
@@ -105,8 +105,8 @@ pub fn write(out: &mut [u8], at: usize, e: ScopeTableEntry) -> Result<(), Refusa
 fn count_from(s: &[u8], start: usize) -> Result<u32, Refusal>
     ensures { result ≡ count_from s.now start }
 {
-    let mut cursor = Cursor::new(start);
-    let count: u32 = cursor.next(s, false)?;
+    let cursor = Cursor::new(start);
+    let (count, cursor) = cursor.next::<u32>(s, false)?;
     if count as usize <= (s.len() - cursor.at) / SIZE {
         return Ok(count);
     }

@@ -204,11 +204,11 @@ module _ (s : List ℕ) (at i : ℕ) where
         unfolding read_code_of
         code_past d a z = must_on Err _ _ _ (le-leb _ _ l) (rw (← e, f, ← g, d, ← b, a, z))
 
-        code_here_cut : {c : UnwindCode} {k : Refusal} → w ≡ here c → q ≡ Err k → Err k ≡ read_code_of s at i
+        pub code_here_cut : {c : UnwindCode} {k : Refusal} → w ≡ here c → q ≡ Err k → Err k ≡ read_code_of s at i
         unfolding read_code_of
         code_here_cut d a = must_on Err _ _ _ (le-leb _ _ l) (rw (← e, f, ← g, d, ← b, a))
 
-        code_past_cut : {k : Refusal} → w ≡ fewer → q ≡ Err k → Err k ≡ read_code_of s at i
+        pub code_past_cut : {k : Refusal} → w ≡ fewer → q ≡ Err k → Err k ≡ read_code_of s at i
         unfolding read_code_of
         code_past_cut d a = must_on Err _ _ _ (le-leb _ _ l) (rw (← e, f, ← g, d, ← b, a))
 

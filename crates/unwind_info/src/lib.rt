@@ -111,15 +111,15 @@ pub fn read_info(file: &[u8], at: usize) -> Result<UnwindInfo, Refusal>
 pub fn read_header(s: &[u8], at: usize) -> Result<UnwindHeader, Refusal>
     ensures { result ≡ read_header_of s.now at }
 {
-    let mut cursor = Cursor::new(at);
-    let first: u8 = cursor.next(s, false)?;
+    let cursor = Cursor::new(at);
+    let (first, cursor) = cursor.next::<u8>(s, false)?;
     let version = first % 8;
     if !unwind_operation::known_version(version) {
         return Err(Reason::Version.into());
     }
-    let size_of_prolog = cursor.next(s, false)?;
-    let count_of_codes: u8 = cursor.next(s, false)?;
-    let frame: u8 = cursor.next(s, false)?;
+    let (size_of_prolog, cursor) = cursor.next(s, false)?;
+    let (count_of_codes, cursor) = cursor.next::<u8>(s, false)?;
+    let (frame, cursor) = cursor.next::<u8>(s, false)?;
     let slots = count_of_codes as usize;
     if !fields::fits(s.len(), cursor.at, 2 * slots) {
         return Err(answer::cut(cursor.at, 2 * slots));
@@ -155,8 +155,8 @@ pub fn read_follows(s: &[u8], at: usize, flags: u8) -> Result<Follows, Refusal>
 fn handler(s: &[u8], at: usize, kind: HandlerKind) -> Result<Follows, Refusal>
     ensures { result ≡ handler_at s.now at kind }
 {
-    let mut cursor = Cursor::new(at);
-    let address = cursor.next(s, false)?;
+    let cursor = Cursor::new(at);
+    let (address, cursor) = cursor.next(s, false)?;
     Ok(Follows::Handler(UnwindHandler {
         kind,
         address,

@@ -1,8 +1,8 @@
--- What the answer of this crate stands for, how many numbers that is, and how a definition goes on from it.
+-- What the answer of this crate stands for, and how many numbers that is.
 -- Assumes nothing.
 use Rattle.std.specs.Prelude.{Result, List, [], ◌∷◌, ℕ}
 use Rattle.answer.specs.Answer.{Answer, answer_of}
-use Rattle.answer.specs.Test.{pick}
+use Rattle.answer.specs.Bit.{bit_of}
 use Rattle.answer.specs.declared.Refusal.{Refusal}
 use Rattle.unwind_operation.specs.declared.StackFrameOffset.{StackFrameOffset}
 use Rattle.unwind_operation.specs.declared.StackFrameOffset.TheVariants.{RSP, FP}
@@ -16,7 +16,7 @@ abbrev pub offset_numbers : StackFrameOffset → List ℕ
 offset_numbers (RSP n) = 0 ∷ n ∷ []
 offset_numbers (FP n) = 1 ∷ n ∷ []
 
--- 11.15: kind, register, base, amount
+-- 11.15, 15.4: kind, register, base, amount
 abbrev pub operation_numbers : UnwindOperation → List ℕ
 operation_numbers (PushNonVolatile r) = 0 ∷ r.0 ∷ 0 ∷ 0 ∷ []
 operation_numbers (Alloc n) = 1 ∷ 0 ∷ 0 ∷ n ∷ []
@@ -25,7 +25,7 @@ operation_numbers (SaveNonVolatile r o) = 3 ∷ r.0 ∷ offset_numbers o
 operation_numbers (SaveXMM r o) = 4 ∷ r.0 ∷ offset_numbers o
 operation_numbers (Epilog low high) = 5 ∷ 0 ∷ high ∷ low ∷ []
 operation_numbers (SaveXMM128 r o) = 6 ∷ r.0 ∷ offset_numbers o
-operation_numbers (PushMachineFrame e) = 7 ∷ 0 ∷ 0 ∷ pick e 1 0 ∷ []
+operation_numbers (PushMachineFrame e) = 7 ∷ 0 ∷ 0 ∷ bit_of e ∷ []
 operation_numbers Noop = 8 ∷ 0 ∷ 0 ∷ 0 ∷ []
 
 -- the code offset, then the operation

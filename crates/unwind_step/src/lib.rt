@@ -33,8 +33,9 @@ pub fn step(
 ) -> Result<(), Refusal>
     ensures { record { answer = result; state = state.new } ≡ step_of file.now opened address state.old window.entry.words.now window.entry.base }
 {
-    *state = caller(file, opened, address, *state, window)?;
-    Ok(())
+    let stepped = step_value(file, opened, address, *state, window);
+    *state = stepped.state;
+    stepped.answer
 }
 
 // The same by value.

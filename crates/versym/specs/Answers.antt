@@ -2,13 +2,13 @@
 -- Assumes nothing.
 use Rattle.std.specs.Prelude.{Result, ℕ, List, [], ◌∷◌}
 use Rattle.answer.specs.Answer.{Answer, answer_of}
-use Rattle.answer.specs.Test.{pick}
+use Rattle.answer.specs.Bit.{bit_of}
 use Rattle.answer.specs.declared.Refusal.{Refusal}
 use Rattle.versym.specs.declared.Versym.{Versym}
 
--- the numbers of an entry: the hidden bit, and the version
+-- 15.4: the numbers of an entry: the hidden bit, and the version
 abbrev pub numbers_of : Versym → List ℕ
-numbers_of e = pick e.hidden 1 0 ∷ e.version ∷ []
+numbers_of e = bit_of e.hidden ∷ e.version ∷ []
 
 abbrev pub answer_read_versym : Result Versym Refusal → Answer
 answer_read_versym = answer_of numbers_of

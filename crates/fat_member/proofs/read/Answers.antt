@@ -10,34 +10,34 @@ use Rattle.fat_member.proofs.read.Goals as goal
 pub returns-in_err-cputype : goal.returns-in_err-cputype
 returns-in_err-cputype c =
     let z = new_at c.new-cursor.ensures in
-    let m = cut true 4 _ c.next.ensures.number c.in_err-cputype.was in
+    let m = cut true 4 _ c.next.ensures c.in_err-cputype.was in
     let k : c.from_residual.result ≡ Err c.in_err-cputype.field-0.0 = search rules in
     k ∙ member_no_front fat_arch _ _ 0 (omega arith) m (omega arith) (λ i. omega arith)
 
 pub returns-in_err-cpusubtype : goal.returns-in_err-cpusubtype
 returns-in_err-cpusubtype c =
     let z = new_at c.new-cursor.ensures in
-    let f0 = took true 4 _ c.next.ensures.number c.next.ensures.place c.in_ok-cputype.was in
-    let m = cut true 4 _ c.next-2.ensures.number c.in_err-cpusubtype.was in
+    let f0 = took true 4 _ c.next.ensures c.in_ok-cputype.was in
+    let m = cut true 4 _ c.next-2.ensures c.in_err-cpusubtype.was in
     let k : c.from_residual-in_err-cpusubtype.result ≡ Err c.in_err-cpusubtype.field-0.0 = search rules in
     k ∙ member_no_front fat_arch _ _ 1 (omega arith) m (omega arith) (λ i. omega arith)
 
 pub returns-in_err-offset : goal.returns-in_err-offset
 returns-in_err-offset c =
     let z = new_at c.new-cursor.ensures in
-    let f0 = took true 4 _ c.next.ensures.number c.next.ensures.place c.in_ok-cputype.was in
-    let f1 = took true 4 _ c.next-2.ensures.number c.next-2.ensures.place c.in_ok-cpusubtype.was in
-    let m = cut true 4 _ c.next-3.ensures.number c.in_err-offset.was in
+    let f0 = took true 4 _ c.next.ensures c.in_ok-cputype.was in
+    let f1 = took true 4 _ c.next-2.ensures c.in_ok-cpusubtype.was in
+    let m = cut true 4 _ c.next-3.ensures c.in_err-offset.was in
     let k : c.from_residual-in_err-offset.result ≡ Err c.in_err-offset.field-0.0 = search rules in
     k ∙ member_no_front fat_arch _ _ 2 (omega arith) m (omega arith) (λ i. omega arith)
 
 pub returns-in_err-size : goal.returns-in_err-size
 returns-in_err-size c =
     let z = new_at c.new-cursor.ensures in
-    let f0 = took true 4 _ c.next.ensures.number c.next.ensures.place c.in_ok-cputype.was in
-    let f1 = took true 4 _ c.next-2.ensures.number c.next-2.ensures.place c.in_ok-cpusubtype.was in
-    let f2 = took true 4 _ c.next-3.ensures.number c.next-3.ensures.place c.in_ok-offset.was in
-    let m = cut true 4 _ c.next-4.ensures.number c.in_err-size.was in
+    let f0 = took true 4 _ c.next.ensures c.in_ok-cputype.was in
+    let f1 = took true 4 _ c.next-2.ensures c.in_ok-cpusubtype.was in
+    let f2 = took true 4 _ c.next-3.ensures c.in_ok-offset.was in
+    let m = cut true 4 _ c.next-4.ensures c.in_err-size.was in
     let k : c.from_residual-in_err-size.result ≡ Err c.in_err-size.field-0.0 = search rules in
     k ∙ member_no_front fat_arch _ _ 3 (omega arith) m (omega arith) (λ i. omega arith)
 
@@ -45,10 +45,10 @@ pub returns-then-not-fits : goal.returns-then-not-fits
 unfolding numbers_at
 returns-then-not-fits c =
     let z = new_at c.new-cursor.ensures in
-    let f0 = took true 4 _ c.next.ensures.number c.next.ensures.place c.in_ok-cputype.was in
-    let f1 = took true 4 _ c.next-2.ensures.number c.next-2.ensures.place c.in_ok-cpusubtype.was in
-    let f2 = took true 4 _ c.next-3.ensures.number c.next-3.ensures.place c.in_ok-offset.was in
-    let f3 = took true 4 _ c.next-4.ensures.number c.next-4.ensures.place c.in_ok-size.was in
+    let f0 = took true 4 _ c.next.ensures c.in_ok-cputype.was in
+    let f1 = took true 4 _ c.next-2.ensures c.in_ok-cpusubtype.was in
+    let f2 = took true 4 _ c.next-3.ensures c.in_ok-offset.was in
+    let f3 = took true 4 _ c.next-4.ensures c.in_ok-size.was in
     let n2 = number_there {at = c.args.at + 4 + 4} f2 (omega arith) in
     let n3 = number_there {at = c.args.at + 4 + 4 + 4} f3 (omega arith) in
     let h : length c.args.file.now < c.in_ok-offset.offset + c.in_ok-size.size = leb-false _ _ (sym c.fits.ensures ∙ c.if-not-fits.true) in
@@ -58,14 +58,14 @@ pub returns-in_err-align : goal.returns-in_err-align
 unfolding numbers_at
 returns-in_err-align c =
     let z = new_at c.new-cursor.ensures in
-    let f0 = took true 4 _ c.next.ensures.number c.next.ensures.place c.in_ok-cputype.was in
-    let f1 = took true 4 _ c.next-2.ensures.number c.next-2.ensures.place c.in_ok-cpusubtype.was in
-    let f2 = took true 4 _ c.next-3.ensures.number c.next-3.ensures.place c.in_ok-offset.was in
-    let f3 = took true 4 _ c.next-4.ensures.number c.next-4.ensures.place c.in_ok-size.was in
+    let f0 = took true 4 _ c.next.ensures c.in_ok-cputype.was in
+    let f1 = took true 4 _ c.next-2.ensures c.in_ok-cpusubtype.was in
+    let f2 = took true 4 _ c.next-3.ensures c.in_ok-offset.was in
+    let f3 = took true 4 _ c.next-4.ensures c.in_ok-size.was in
     let n2 = number_there {at = c.args.at + 4 + 4} f2 (omega arith) in
     let n3 = number_there {at = c.args.at + 4 + 4 + 4} f3 (omega arith) in
     let h : c.in_ok-offset.offset + c.in_ok-size.size ≤ length c.args.file.now = leb-true _ _ (sym c.fits.ensures ∙ c.if-not-fits.false) in
-    let m = cut true 4 _ c.next-5.ensures.number c.in_err-align.was in
+    let m = cut true 4 _ c.next-5.ensures c.in_err-align.was in
     let k : c.from_residual-in_err-align.result ≡ Err c.in_err-align.field-0.0 = search rules in
     k ∙ member_no_back fat_arch _ _ (omega arith) (omega arith) 0 (omega arith) m (omega arith) (λ i. omega arith)
 
@@ -73,11 +73,11 @@ pub returns : goal.returns
 unfolding numbers_at
 returns c =
     let z = new_at c.new-cursor.ensures in
-    let f0 = took true 4 _ c.next.ensures.number c.next.ensures.place c.in_ok-cputype.was in
-    let f1 = took true 4 _ c.next-2.ensures.number c.next-2.ensures.place c.in_ok-cpusubtype.was in
-    let f2 = took true 4 _ c.next-3.ensures.number c.next-3.ensures.place c.in_ok-offset.was in
-    let f3 = took true 4 _ c.next-4.ensures.number c.next-4.ensures.place c.in_ok-size.was in
-    let f4 = took true 4 _ c.next-5.ensures.number c.next-5.ensures.place c.in_ok-align.was in
+    let f0 = took true 4 _ c.next.ensures c.in_ok-cputype.was in
+    let f1 = took true 4 _ c.next-2.ensures c.in_ok-cpusubtype.was in
+    let f2 = took true 4 _ c.next-3.ensures c.in_ok-offset.was in
+    let f3 = took true 4 _ c.next-4.ensures c.in_ok-size.was in
+    let f4 = took true 4 _ c.next-5.ensures c.in_ok-align.was in
     let n0 = number_there {at = c.args.at} f0 (omega arith) in
     let n1 = number_there {at = c.args.at + 4} f1 (omega arith) in
     let n2 = number_there {at = c.args.at + 4 + 4} f2 (omega arith) in

@@ -6,5 +6,5 @@ use Rattle.pe_dos.proofs.halves_at.Given as goal
 
 abbrev pub invariant-loop-half : goal.invariant-loop-half
 invariant-loop-half l =
-    (l.cursor.at ≡ l.initial.cursor.at + l.half-index * 2) × (0 < l.half-index → l.cursor.at ≤ length l.s) × (length l.half-items ≡ 29) ×
-    (take l.half-index l.half-items ≡ numbers_at false (array l.half-index 2 []) l.s l.initial.cursor.at)
+    (l.cursor.at ≡ l.fn.from.at + l.half-index * 2) × (0 < l.half-index → l.cursor.at ≤ length l.s) × (length l.half-items ≡ 29) ×
+    (take l.half-index l.half-items ≡ numbers_at false (array l.half-index 2 []) l.s l.fn.from.at)

@@ -12,7 +12,7 @@ pub returns-in_err-begin : goal.returns-in_err-begin
 unfolding read_of
 returns-in_err-begin c =
     let z = new_at c.new-cursor.ensures in
-    let m = cut false 4 _ c.next.ensures.number c.in_err-begin.was in
+    let m = cut false 4 _ c.next.ensures c.in_err-begin.was in
     let k : c.from_residual.result ≡ Err c.in_err-begin.field-0.0 = search rules in
     missed_by false runtime_function 0 (omega arith) _ Err _ _ _ m (omega arith) (λ i. omega arith) k
 
@@ -20,8 +20,8 @@ pub returns-in_err-end : goal.returns-in_err-end
 unfolding read_of
 returns-in_err-end c =
     let z = new_at c.new-cursor.ensures in
-    let f0 = took false 4 _ c.next.ensures.number c.next.ensures.place c.in_ok-begin.was in
-    let m = cut false 4 _ c.next-2.ensures.number c.in_err-end.was in
+    let f0 = took false 4 _ c.next.ensures c.in_ok-begin.was in
+    let m = cut false 4 _ c.next-2.ensures c.in_err-end.was in
     let k : c.from_residual-in_err-end.result ≡ Err c.in_err-end.field-0.0 = search rules in
     missed_by false runtime_function 1 (omega arith) _ Err _ _ _ m (omega arith) (λ i. omega arith) k
 
@@ -29,9 +29,9 @@ pub returns-in_err-unwind : goal.returns-in_err-unwind
 unfolding read_of
 returns-in_err-unwind c =
     let z = new_at c.new-cursor.ensures in
-    let f0 = took false 4 _ c.next.ensures.number c.next.ensures.place c.in_ok-begin.was in
-    let f1 = took false 4 _ c.next-2.ensures.number c.next-2.ensures.place c.in_ok-end.was in
-    let m = cut false 4 _ c.next-3.ensures.number c.in_err-unwind.was in
+    let f0 = took false 4 _ c.next.ensures c.in_ok-begin.was in
+    let f1 = took false 4 _ c.next-2.ensures c.in_ok-end.was in
+    let m = cut false 4 _ c.next-3.ensures c.in_err-unwind.was in
     let k : c.from_residual-in_err-unwind.result ≡ Err c.in_err-unwind.field-0.0 = search rules in
     missed_by false runtime_function 2 (omega arith) _ Err _ _ _ m (omega arith) (λ i. omega arith) k
 
@@ -39,7 +39,7 @@ pub returns : goal.returns
 unfolding read_of numbers_at
 returns c =
     let z = new_at c.new-cursor.ensures in
-    let f0 = took false 4 _ c.next.ensures.number c.next.ensures.place c.in_ok-begin.was in
-    let f1 = took false 4 _ c.next-2.ensures.number c.next-2.ensures.place c.in_ok-end.was in
-    let f2 = took false 4 _ c.next-3.ensures.number c.next-3.ensures.place c.in_ok-unwind.was in
+    let f0 = took false 4 _ c.next.ensures c.in_ok-begin.was in
+    let f1 = took false 4 _ c.next-2.ensures c.in_ok-end.was in
+    let f2 = took false 4 _ c.next-3.ensures c.in_ok-unwind.was in
     full_is false _ _ _ runtime_function _ (omega arith) (rw (f0.value, f1.value, f2.value, f1.past, f0.past, z) refl)

@@ -1,2 +1,0 @@
--- `Bit` is a yes or no as a number.
-pub mod Bit
